@@ -1,0 +1,12 @@
+//! Ids of transactions, and thin types for lists, bytes and texts.
+//!
+//! The lowest crate: it knows no key, no stored form and no store.
+#![tactic(auto)]
+
+mod list;
+mod memory;
+mod txn_id;
+
+pub use list::{Bytes, List, Text};
+pub use memory::Memory;
+pub use txn_id::{TxnId};
