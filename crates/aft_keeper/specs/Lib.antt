@@ -1,0 +1,4 @@
+pub mod Cause
+pub mod Contents
+pub mod Calls
+pub mod Taken

@@ -1,0 +1,15 @@
+//! What AFT asks of the world outside: a store, a clock, a source of files and a sink for output.
+//!
+//! Each is a trait whose ghost members say what a caller may rely on, with one form in memory that tells all
+//! of it. The crate knows names and bytes, and nothing of transactions.
+#![tactic(auto)]
+
+mod clock;
+mod keeper;
+mod sink;
+mod source;
+
+pub use clock::{Clock, FixedClock};
+pub use keeper::{Keeper, KeeperAnswer, KeeperCall, KeeperEntry, KeeperFault, Pair};
+pub use sink::{Sink, SinkFault};
+pub use source::{Source, SourceFault};
