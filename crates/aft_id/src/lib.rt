@@ -3,10 +3,12 @@
 //! The lowest crate: it knows no key, no stored form and no store.
 #![tactic(auto)]
 
+mod laws;
 mod list;
 mod memory;
 mod txn_id;
 
+pub use laws::id_order;
 pub use list::{Bytes, List, Text};
 pub use memory::Memory;
-pub use txn_id::{TxnId};
+pub use txn_id::{TxnId, uuid_bytes};
