@@ -1,1 +1,2 @@
 pub mod IdOrder
+pub mod UuidTexts

@@ -1,1 +1,2 @@
 pub mod TxnId
+pub mod UuidText

@@ -1,8 +1,14 @@
 //! Ids of transactions.
 
-ghost use Rattle.std.specs.Prelude.{◌≡◌, ◌<◌, All, length};
+ghost use Rattle.std.specs.Prelude.{◌≡◌, ◌<◌, ◌^◌, ℕ, All, IfErr, IfOk, IfSome, List, Ok, Some, length};
+ghost use Rattle.std.specs.Fmt.{decimal};
+ghost use Rattle.std.specs.String.{string_bytes};
+ghost use Rattle.uuid.specs.Text.{hyphenated_text, lower};
 ghost use Rattle.aft_id.specs.TxnId.{IsUuid};
 
+use crate::fault::IdFault;
+use crate::memory::Memory;
+use std::alloc::Global;
 use std::cmp::Ordering;
 use uuid::Uuid;
 
@@ -18,7 +24,7 @@ pub struct TxnId {
 }
 
 impl TxnId {
-    ghost use Rattle.aft_id.specs.TxnId.{zero_id, id_cmp, id_lt};
+    ghost use Rattle.aft_id.specs.TxnId.{zero_id, id_cmp, id_lt, id_text};
 
     /// The id at which an absent key is read: time 0 and the nil UUID. No id is below it.
     pub fn zero() -> TxnId
@@ -46,6 +52,32 @@ impl TxnId {
         self.time < other.time
             || self.time == other.time && self.uuid.as_u128() < other.uuid.as_u128()
     }
+
+    /// The text of this id: its time in decimal digits, `-`, and its UUID hyphenated in lower case.
+    ///
+    /// `Memory` comes only where memory ran out.
+    pub fn write(&self, alloc: Global) -> Result<String, Memory>
+        ensures { IfOk result (λ text. string_bytes text ≡ id_text self.now) }
+    {
+        let text = format!(in alloc; "{}-{}", self.time, self.uuid)?;
+        Ok(text)
+    }
+
+    /// The id of a text that `write` gives for an id whose time is below 2^48. Takes no memory.
+    ///
+    /// Any other text is `BadId`: a time with a leading zero or a UUID in another form too.
+    pub fn read(text: &str) -> Result<TxnId, IdFault>
+        ensures text { IfOk result (λ id. text.now ≡ id_text id) }
+        ensures time { IfOk result (λ id. id.time < 2 ^ 48) }
+        ensures bytes { IfOk result (λ id. IsUuid id.uuid) }
+        ensures reads { (id : TxnId) → IsUuid id.uuid → id.time < 2 ^ 48 → text.now ≡ id_text id → result ≡ Ok id }
+        ensures bad { IfErr result (λ e. e ≡ IdFault.BadId) }
+    {
+        let (time, uuid) = text.split_once('-').ok_or(IdFault::BadId)?;
+        let time = read_time(time).ok_or(IdFault::BadId)?;
+        let uuid = read_hyphenated(uuid).ok_or(IdFault::BadId)?;
+        Ok(TxnId { time, uuid })
+    }
 }
 
 /// The sixteen bytes of a UUID. The call tells a proof that they are sixteen, and below 256 each.
@@ -70,4 +102,30 @@ fn sixteen(bytes: &[u8; 16]) -> &[u8]
 fn fits(bytes: &[u8])
     ensures { All (λ b. b < 256) bytes.now }
 {
+}
+
+// The time below 2^48 that a text is the decimal digits of.
+fn read_time(text: &str) -> Option<u64>
+    ensures text { IfSome result (λ time. text.now ≡ decimal time) }
+    ensures small { IfSome result (λ time. time < 2 ^ 48) }
+    ensures reads { (time : ℕ) → time < 2 ^ 48 → text.now ≡ decimal time → result ≡ Some time }
+{
+    if text.starts_with('+') || text.len() > 1 && text.starts_with('0') {
+        return None;
+    }
+    let time = text.parse::<u64>().ok()?;
+    if time < 1 << 48 { Some(time) } else { None }
+}
+
+// The UUID that a text is the hyphenated form of, in lower case.
+fn read_hyphenated(text: &str) -> Option<Uuid>
+    ensures text { IfSome result (λ u. text.now ≡ hyphenated_text lower u) }
+    ensures bytes { IfSome result IsUuid }
+    ensures reads { (u : List ℕ) → IsUuid u → text.now ≡ hyphenated_text lower u → result ≡ Some u }
+{
+    let uuid = Uuid::try_parse(text).ok()?;
+    uuid_bytes(&uuid);
+    let mut buffer = Uuid::encode_buffer();
+    let written = uuid.hyphenated().encode_lower(&mut buffer);
+    if *written == *text { Some(uuid) } else { None }
 }
