@@ -2,3 +2,6 @@ pub mod Cause
 pub mod Contents
 pub mod Calls
 pub mod Taken
+pub mod Failures
+pub mod MemSink
+pub mod MemSource

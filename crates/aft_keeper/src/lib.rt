@@ -5,11 +5,16 @@
 #![tactic(auto)]
 
 mod clock;
+mod failures;
 mod keeper;
+mod mem_sink;
+mod mem_source;
 mod sink;
 mod source;
 
 pub use clock::{Clock, FixedClock};
 pub use keeper::{Keeper, KeeperAnswer, KeeperCall, KeeperEntry, KeeperFault, Pair};
+pub use mem_sink::MemSink;
+pub use mem_source::MemSource;
 pub use sink::{Sink, SinkFault};
 pub use source::{Source, SourceFault};

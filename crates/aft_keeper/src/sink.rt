@@ -3,6 +3,7 @@ ghost use Rattle.std.specs.Prelude.{◌≡◌, ℕ, Option, IsErrOf};
 ghost use Rattle.aft_keeper.specs.Cause.{HasCause};
 ghost use Rattle.aft_keeper.specs.Taken.{Takes};
 
+use std::alloc::AllocError;
 use thiserror::Error;
 
 /// Why a piece of output was not taken.
@@ -14,6 +15,17 @@ pub enum SinkFault {
     /// Memory ran out. Nothing of the piece was taken.
     #[error("out of memory")]
     Memory,
+}
+
+impl From<AllocError> for SinkFault {
+    ghost use Rattle.std.specs.Prelude.{◌≡◌};
+    ghost use Rattle.aft_keeper.specs.declared.sink.SinkFault.TheVariants.{Memory};
+
+    ghost from_gives = { λ _ fault. fault ≡ Memory };
+
+    fn from(_e: AllocError) -> SinkFault {
+        SinkFault::Memory
+    }
 }
 
 /// Where output goes, piece by piece.

@@ -5,6 +5,7 @@ ghost use Rattle.aft_keeper.specs.Cause.{HasCause};
 ghost use Rattle.aft_keeper.specs.Contents.{bytes_at};
 
 use aft_id::Bytes;
+use std::alloc::AllocError;
 use thiserror::Error;
 
 /// Why a file could not be read.
@@ -19,6 +20,17 @@ pub enum SourceFault {
     /// Memory ran out.
     #[error("out of memory")]
     Memory,
+}
+
+impl From<AllocError> for SourceFault {
+    ghost use Rattle.std.specs.Prelude.{◌≡◌};
+    ghost use Rattle.aft_keeper.specs.declared.source.SourceFault.TheVariants.{Memory};
+
+    ghost from_gives = { λ _ fault. fault ≡ Memory };
+
+    fn from(_e: AllocError) -> SourceFault {
+        SourceFault::Memory
+    }
 }
 
 /// Where files are read from, by name.
