@@ -1,0 +1,4 @@
+pub mod Limits
+pub mod Gives
+pub mod Cells
+pub mod Rows
