@@ -1,6 +1,6 @@
 //! Keys.
 
-ghost use Rattle.std.specs.Prelude.{◌≡◌, ◌↔◌, ◌⊎◌, IfOk, IfErr};
+ghost use Rattle.std.specs.Prelude.{◌≡◌, ◌↔◌, ◌⊎◌, IfOk, IfErr, IsTrue};
 ghost use Rattle.std.specs.Cmp.{partial_order_from_own_ties};
 ghost use Rattle.std.specs.Cmp.Rules.{comparing};
 ghost use Rattle.std.proofs.Common.{rules, refl};
@@ -64,6 +64,14 @@ impl Key {
         }
         let bytes = Bytes::from_vec(Vec::from_slice(alloc, bytes)?);
         Ok(Key { bytes })
+    }
+
+    /// The key of bytes that are a key's.
+    pub(crate) fn of(bytes: Bytes) -> Key
+        requires { IsTrue (is_key bytes) }
+        ensures { result ≡ bytes }
+    {
+        Key { bytes }
     }
 
     /// The bytes, lent. Takes no memory.

@@ -5,12 +5,14 @@ ghost use Rattle.std.specs.List.{list_all};
 ghost use Rattle.std.specs.Option.{option_copied};
 ghost use Rattle.std.specs.Cmp.Lexicographic.{pointwise, nat_list_eq_equiv, lists_equiv};
 ghost use Rattle.std.specs.Cmp;
+ghost use Rattle.aft_records.specs.Gives.{Gives};
+ghost use Rattle.aft_records.specs.Reading.{checked_keys, checked_set};
 ghost use Rattle.aft_records.specs.Limits.{is_key, AreKeys, follows, ascend};
 
 use crate::fault::{FieldFault, RecordFault};
-use crate::key::Key;
-use aft_id::List;
-use std::alloc::AllocError;
+use crate::key::{Key, is_key};
+use aft_id::{Bytes, List};
+use std::alloc::{AllocError, Global};
 use std::marker::Model;
 
 /// The most keys of a write set.
@@ -59,7 +61,49 @@ fn ascend(keys: &[Key]) -> bool
     true
 }
 
+/// Whether texts are keys: `BadKey` with the index of the first that is not.
+fn check_keys(texts: &[Bytes]) -> Result<(), RecordFault>
+    requires { length texts.now ≤ 32 }
+    ensures { Gives (λ x. x) result (checked_keys 0 texts.now) }
+{
+    for (index, text) in texts.iter().enumerate() {
+        if !is_key(text.as_slice()) {
+            return Err(RecordFault::BadKey {
+                index: index as u32,
+            });
+        }
+    }
+    Ok(())
+}
+
+/// These texts as keys.
+fn keys_from(alloc: Global, texts: Vec<Bytes>) -> Result<Vec<Key>, AllocError>
+    requires { IsTrue (list_all is_key texts.items) }
+    ensures { IfOk result (λ keys. keys.items ≡ texts.items) }
+{
+    let mut keys = Vec::new(alloc);
+    for text in texts {
+        keys.push(Key::of(text))?;
+    }
+    Ok(keys)
+}
+
 impl Keys {
+    /// The write set of texts that ascend: `BadKeys` where there are none or more than 32, and then
+    /// `BadKey` with the index of the first that is no key.
+    #[tactic(auto, unfolding(crate::specs::Reading::checked_set))]
+    pub(crate) fn of(alloc: Global, texts: Vec<Bytes>) -> Result<Keys, RecordFault>
+        requires { IsTrue (ascend texts.items) }
+        ensures { Gives (λ x. x) result (checked_set texts.items) }
+    {
+        if texts.is_empty() || texts.len() > MAX_KEYS {
+            return Err(RecordFault::BadKeys);
+        }
+        check_keys(texts.as_slice())?;
+        let keys = List::from_vec(keys_from(alloc, texts)?);
+        Ok(Keys { keys })
+    }
+
     /// The write set of these keys. `BadKeys` comes exactly where there are none or more than 32, and
     /// otherwise `Unsorted` of field 0 exactly where they do not ascend strictly. Takes no memory.
     pub fn new(keys: List<Key>) -> Result<Keys, RecordFault>

@@ -8,8 +8,13 @@ mod fault;
 mod key;
 mod keys;
 mod name;
+mod reading;
 mod stored;
+mod walk;
 mod writing;
+
+#[cfg(test)]
+mod tests;
 
 pub use fault::{FieldFault, NameFault, RecordFault};
 pub use key::Key;
