@@ -1,0 +1,6 @@
+pub mod Limits
+pub mod Gives
+pub mod Cells
+pub mod Rows
+pub mod Place
+pub mod Reading

@@ -1,0 +1,23 @@
+//! What a store holds: commits, versions and markers as bytes, and the names that they stand under.
+//!
+//! Each value has one spelling, and each spelling is read back as its value. Other bytes are refused by
+//! the first fault from the left.
+#![tactic(auto)]
+
+mod fault;
+mod key;
+mod keys;
+mod name;
+mod reading;
+mod stored;
+mod walk;
+mod writing;
+
+#[cfg(test)]
+mod tests;
+
+pub use fault::{FieldFault, NameFault, RecordFault};
+pub use key::Key;
+pub use keys::Keys;
+pub use name::Name;
+pub use stored::{Commit, Marker, Version};
