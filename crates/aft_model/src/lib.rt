@@ -1,0 +1,29 @@
+//! The plain data that the layers of AFT pass to one another: who asks, what each history has, what a script
+//! says, what is answered.
+//!
+//! The crate holds data and the words of contracts over it. It makes no call of a store, and it has no machine.
+#![tactic(auto)]
+
+mod caller;
+mod choice;
+mod door;
+mod mail;
+mod node;
+mod office;
+mod place;
+mod read_set;
+mod reply;
+mod script;
+mod trace;
+
+pub use caller::{Attempt, By, Caller, Hold};
+pub use choice::{Blocked, Choice, Picked};
+pub use door::{DoorAct, DoorEntry};
+pub use mail::{MailAct, MailEntry};
+pub use node::{NodeAct, NodeEntry};
+pub use office::{OfficeAct, OfficeEntry};
+pub use place::Where;
+pub use read_set::{ReadPair, ReadSet};
+pub use reply::{Judged, Reply, Verdict};
+pub use script::{Command, Line, Order, Script, Step};
+pub use trace::Trace;
