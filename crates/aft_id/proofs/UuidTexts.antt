@@ -21,7 +21,7 @@ use Rattle.aft_id.specs.TxnId.{IsUuid}
 use Rattle.aft_id.specs.UuidText.{uuid_of_digits, after_prefix, uuid_of_text}
 
 -- the decimal digits of std and their value
-decimal_digits : IsNumeralModel (λ ds. all_ascii_digits ds ≡ true) (digits_value 10)
+pub decimal_digits : IsNumeralModel (λ ds. all_ascii_digits ds ≡ true) (digits_value 10)
 decimal_digits = numerals_by_value _ tells_all_ascii_digits
 
 -- a number in digits, as `parse` reads it
