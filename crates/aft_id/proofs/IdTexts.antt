@@ -16,12 +16,13 @@ use Rattle.aft_id.proofs.UuidTexts.{decimal_digits}
 
 -- the digits of a number, as they are written, have no sign and no leading zero
 pub decimal_plain : (n : ℕ) → n < 2 ^ 64 → (get_or (decimal n) 0 0 ≢ 43) × (get_or (decimal n) 0 0 ≡ 48 → length (decimal n) ≡ 1)
-decimal_plain n fits =
-    (not_in_digits decimal_digits (decimal n) 43 (digits_decimal decimal_digits n fits) (λ r. omega arith) 0 (decimal_nonempty n fits),
-    λ zero_first. elim (cases_eq n 0) [
-      | inl is_zero ↦ rw is_zero (ap length (decimal_digit 0 (omega arith)))
-      | inr positive ↦ absurd (omega (arith, first_decimal n (omega arith) fits))
-    ])
+decimal_plain n fits = (
+  not_in_digits decimal_digits (decimal n) 43 (digits_decimal decimal_digits n fits) (λ r. omega arith) 0 (decimal_nonempty n fits),
+  λ zero_first. elim (cases_eq n 0) [
+    | inl is_zero ↦ rw is_zero (ap length (decimal_digit 0 (omega arith)))
+    | inr positive ↦ absurd (omega (arith, first_decimal n (omega arith) fits))
+  ],
+)
 
 -- what is read of the digits of a number
 pub read_decimal : {E : Type 0} (n : ℕ) (ds : List ℕ) (r : Result ℕ E) (o : Option ℕ) → n < 2 ^ 64 → ds ≡ decimal n → ParsesUnsigned 64 10 ds r

@@ -29,7 +29,7 @@ abbrev IsNumber : List ℕ → Type 0
 IsNumber ds = (1 ≤ length ds) × (length ds ≤ 39) × (all_ascii_digits ds ≡ true) × (digits_value 10 ds < 2 ^ 128)
 
 uuid_of_digits_some : (ds : List ℕ) → IsNumber ds → uuid_of_digits ds ≡ Some (to_be_bytes w128 (digits_value 10 ds))
-uuid_of_digits_some ds is_number = 
+uuid_of_digits_some ds is_number =
     let some : nat_le 1 (length ds) ≡ true = grind (arith, nat_tests) in
     let few : nat_le (length ds) 39 ≡ true = grind (arith, nat_tests) in
     let fits : nat_lt (digits_value 10 ds) (2 ^ 128) ≡ true = grind (arith, nat_tests) in
@@ -206,11 +206,14 @@ names_simple s =
     let parts = and_parts (nat_eq (length s) 32) (list_all is_hex_digit s) test in
     let long : length s ≡ 32 = grind (arith, nat_tests, parts.0) in
     let digits = AllPass-from_list_all is_hex_digit s parts.1 in
-    names_some _ (by_index_length 16 (byte_of_digits s), λ k d within.
-    let place : k < 16 = omega (arith, by_index_length 16 (byte_of_digits s)) in
-    let high = digit_small (slice_index s (2 * k)) (digits (2 * k) 0 (omega arith)) in
-    let low = digit_small (slice_index s (2 * k + 1)) (digits (2 * k + 1) 0 (omega arith)) in
-    rw (by_index_at 16 (byte_of_digits s) k d place) (omega (arith, high, low))))
+    names_some _ (
+      by_index_length 16 (byte_of_digits s),
+      λ k d within.
+          let place : k < 16 = omega (arith, by_index_length 16 (byte_of_digits s)) in
+          let high = digit_small (slice_index s (2 * k)) (digits (2 * k) 0 (omega arith)) in
+          let low = digit_small (slice_index s (2 * k + 1)) (digits (2 * k + 1) 0 (omega arith)) in
+          rw (by_index_at 16 (byte_of_digits s) k d place) (omega (arith, high, low)),
+    ))
 
 names_hyphenated : (s : List ℕ) → NamesUuid (parsed_hyphenated s)
 names_hyphenated s = names_if _ _ (λ test. names_simple (digits_of s))

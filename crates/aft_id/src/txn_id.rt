@@ -98,8 +98,7 @@ fn sixteen(bytes: &[u8; 16]) -> &[u8]
 // Each byte of a slice is in its type's range.
 fn fits(bytes: &[u8])
     ensures { All (λ b. b < 256) bytes.now }
-{
-}
+{}
 
 // The id that a text is the text of, where its time is below 2^48.
 fn read_id(text: &str) -> Option<TxnId>
