@@ -1,11 +1,11 @@
 -- What a text names, by its length and its first byte.
-use Rattle.std.proofs.Common.{◌≡◌, ◌≢◌, ◌↔◌, ℕ, ◌+◌, ◌*◌, ◌^◌, ◌<◌, ◌≤◌, ◌==◌, ◌&&◌, Bool, true, false, true≢false, if◌then◌else◌, nat_eq, nat_le, nat_lt, List, [], ◌∷◌, length, get_or, take, drop, All, Option, Some, None, Result, Ok, Err, IsOk, IfOk, ok_or, inl, inr, ◌⊎◌, subst, slice_index, zero, suc, arith, refl, sym, ap, ◌∙◌}
+use Rattle.std.proofs.Common.{◌≡◌, ◌≢◌, ◌↔◌, ℕ, ◌+◌, ◌*◌, ◌^◌, ◌<◌, ◌≤◌, ◌&&◌, Bool, true, false, true≢false, if◌then◌else◌, nat_eq, nat_le, nat_lt, List, [], ◌∷◌, length, get_or, take, drop, All, Option, Some, None, Result, Ok, Err, IsOk, IfOk, ok_or, inl, inr, ◌⊎◌, subst, slice_index, zero, suc, arith, refl, sym, ap, ◌∙◌}
 use Rattle.std.proofs.lemmas.Bool.{cases_eq, and_parts}
 use Rattle.std.proofs.lemmas.Bool.Decides.{nat_tests}
 use Rattle.std.proofs.lemmas.List.{length-drop}
 use Rattle.std.proofs.lemmas.List.Sums.{AllPass-from_list_all}
 use Rattle.std.proofs.lemmas.Option.{none-some}
-use Rattle.std.proofs.lemmas.Str.Parse.{IsNumeralModel, numerals_by_value, tells_all_ascii_digits, parse_plain, not_in_digits}
+use Rattle.std.proofs.lemmas.Str.Parse.{IsNumeralModel, numerals_by_value, tells_all_ascii_digits, parse_plain}
 use Rattle.std.specs.Cmp.Lexicographic.{same_text}
 use Rattle.std.specs.Int.{w128, to_be_bytes, byte_at, bytes_high_first}
 use Rattle.std.specs.List.{starts_with, list_all}
@@ -14,7 +14,7 @@ use Rattle.std.specs.Prelude.{codes}
 use Rattle.std.specs.Result.{result_ok, OkIff}
 use Rattle.std.specs.Str.{all_ascii_digits, str_eq_ignore_ascii_case}
 use Rattle.std.specs.Str.Parse.{digits_value, ParsesUnsigned}
-use Rattle.uuid.specs.Text.{by_index, hyphenated_text, parsed, parsed_simple, parsed_hyphenated, parsed_braced, parsed_urn, urn_prefix, has_urn_prefix, digits_of, is_hex_digit, value_of, byte_of_digits, hyphen_place, hex_digit_value}
+use Rattle.uuid.specs.Text.{parsed, parsed_simple, parsed_hyphenated, parsed_braced, urn_prefix, has_urn_prefix, digits_of, is_hex_digit, value_of, byte_of_digits, hyphen_place, hex_digit_value}
 use Rattle.uuid.proofs.TextLemmas
 use Rattle.uuid.proofs.TextLemmas.{by_index_length, by_index_at}
 use Rattle.aft_id.specs.TxnId.{IsUuid}

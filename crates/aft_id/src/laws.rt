@@ -14,6 +14,7 @@ use std::cmp::Ordering;
 pub fn id_order()
     ensures total { IsTotalOrder id_cmp }
     ensures answered { (a b : TxnId) → IsUuid a.uuid → IsUuid b.uuid → ⟦<TxnId as Ord>⟧.cmp a b ≡ id_cmp a b }
+    ensures compared { (a b : TxnId) → IsUuid a.uuid → IsUuid b.uuid → ⟦<TxnId as PartialOrd>⟧.partial_cmp a b ≡ Some (id_cmp a b) }
     ensures same { (a b : TxnId) → IsUuid a.uuid → IsUuid b.uuid → id_cmp a b ≡ Ordering.Equal → a ≡ b }
     ensures below { (a b : TxnId) → (id_lt a b ≡ true) ↔ (id_cmp a b ≡ Ordering.Less) }
 {}

@@ -140,6 +140,7 @@ fn read_hyphenated(text: &str) -> Option<Uuid>
     ensures reads { (u : List ℕ) → IsUuid u → text.now ≡ hyphenated_text lower u → result ≡ Some u }
 {
     let uuid = Uuid::try_parse(text).ok()?;
+    // The call tells the proof that `uuid` has the bytes of a UUID.
     uuid_bytes(&uuid);
     let mut buffer = Uuid::encode_buffer();
     let written = uuid.hyphenated().encode_lower(&mut buffer);

@@ -1,4 +1,4 @@
-use Rattle.std.proofs.Common.{◌≡◌, ◌≢◌, arith, sym, ap, ◌∙◌, true, false, true≢false, length, get_or, Some, slice_index}
+use Rattle.std.proofs.Common.{◌≡◌, arith, sym, ◌∙◌, true≢false, Some}
 use Rattle.aft_id.proofs.IdTexts.{decimal_plain, read_decimal, read_plain}
 use Rattle.aft_id.proofs.txn_id.read_time.Goals as goal
 

@@ -1,4 +1,4 @@
-use Rattle.std.proofs.Common.{◌≡◌, sym, ◌∙◌, arith, true, false, nat_eq}
+use Rattle.std.proofs.Common.{sym, ◌∙◌}
 use Rattle.std.proofs.lemmas.Str.Pattern.{starts_text}
 use Rattle.uuid.specs.Text.{parsed, urn_prefix}
 use Rattle.aft_id.proofs.UuidTexts.{other_prefix, parsed_ok, parsed_spelled}
