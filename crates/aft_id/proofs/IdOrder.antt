@@ -1,19 +1,17 @@
 -- The order of ids: the number of a UUID orders as its bytes do.
-use Rattle.std.proofs.Common.{◌≡◌, ℕ, ◌+◌, ◌*◌, ◌^◌, ◌<◌, ◌≤◌, List, [], ◌∷◌, length, get_or, All, true, arith, refl, sym, ap, ◌∙◌}
+use Rattle.std.proofs.Common.{◌≡◌, ℕ, ◌+◌, ◌*◌, ◌^◌, ◌<◌, ◌≤◌, List, [], ◌∷◌, length, get_or, Some, All, arith, refl, sym, ap, ◌∙◌}
 use Rattle.std.proofs.Math.Nat.{pow-succ', mul-le-mul_right}
 use Rattle.std.proofs.lemmas.List.{get_or_default}
 use Rattle.std.proofs.lemmas.List.Elements.{All-tail}
-use Rattle.std.proofs.lemmas.Bool.Decides.{nat_tests}
-use Rattle.std.specs.Cmp.{nat_cmp_is}
-use Rattle.std.specs.Cmp.Lexicographic.{slice_cmp, same_text, texts_ties}
-use Rattle.std.specs.Int.{w128, from_be_bytes}
-use Rattle.std.specs.Ordering.{nat_cmp, ordering_then, MatchOrdering, is_eq}
+use Rattle.std.specs.Cmp.{nat_cmp_is, Some-then}
+use Rattle.std.specs.Cmp.Lexicographic.{slice_cmp, slice_partial_cmp, lists_agrees, same_text, texts_ties}
+use Rattle.std.specs.Ordering.{nat_cmp, as_partial_cmp, ordering_then, partial_ordering_then, MatchOrdering, is_eq}
 use Rattle.std.specs.declared.cmp.Ordering.{Ordering}
 use Rattle.std.specs.declared.cmp.Ordering.TheVariants.{Less, Equal, Greater}
 use Rattle.std.proofs.lemmas.Cmp.{ranked, nat_cmp_total, tied_itself}
 use Rattle.uuid.specs.Text.{by_index}
-use Rattle.uuid.proofs.TextLemmas.{by_index_same, by_index_length}
-use Rattle.aft_id.specs.TxnId.{IsUuid, uuid_number, id_cmp, id_lt}
+use Rattle.uuid.proofs.TextLemmas.{by_index_same}
+use Rattle.aft_id.specs.TxnId.{IsUuid, uuid_number, id_cmp}
 use Rattle.aft_id.specs.declared.txn_id.TxnId.{TxnId}
 
 -- the number of some bytes, the first of them the highest
@@ -89,6 +87,13 @@ uuid_number_injective a b is_a is_b same =
 pub id_cmp-derived : (a b : TxnId) → IsUuid a.uuid → IsUuid b.uuid
     → ordering_then (nat_cmp a.time b.time) (slice_cmp nat_cmp a.uuid b.uuid) ≡ id_cmp a b
 id_cmp-derived a b is_a is_b = ap (λ o. ordering_then (nat_cmp a.time b.time) o) (uuid_order a.uuid b.uuid is_a is_b)
+
+pub id_partial_cmp-derived : (a b : TxnId) → IsUuid a.uuid → IsUuid b.uuid
+    → partial_ordering_then (Some (nat_cmp a.time b.time)) (slice_partial_cmp (as_partial_cmp nat_cmp) a.uuid b.uuid) ≡ Some (id_cmp a b)
+id_partial_cmp-derived a b is_a is_b =
+    ap (λ o. partial_ordering_then (Some (nat_cmp a.time b.time)) o) (lists_agrees (λ x y. refl) a.uuid b.uuid)
+    ∙ Some-then (nat_cmp a.time b.time) (slice_cmp nat_cmp a.uuid b.uuid)
+    ∙ ap Some (id_cmp-derived a b is_a is_b)
 
 both_tied : (o r : Ordering) → ordering_then o r ≡ Equal → (o ≡ Equal) × (r ≡ Equal)
 both_tied Less r tied = cc

@@ -1,2 +1,3 @@
 pub mod IdOrder
 pub mod UuidTexts
+pub mod IdTexts

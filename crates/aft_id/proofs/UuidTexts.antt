@@ -1,11 +1,11 @@
 -- What a text names, by its length and its first byte.
-use Rattle.std.proofs.Common.{◌≡◌, ◌≢◌, ◌↔◌, ℕ, ◌+◌, ◌*◌, ◌^◌, ◌<◌, ◌≤◌, ◌==◌, ◌&&◌, Bool, true, false, true≢false, if◌then◌else◌, nat_eq, nat_le, nat_lt, List, [], ◌∷◌, length, get_or, take, drop, All, Option, Some, None, Result, Ok, Err, IsOk, IfOk, ok_or, inl, inr, ◌⊎◌, subst, slice_index, zero, suc, arith, refl, sym, ap, ◌∙◌}
+use Rattle.std.proofs.Common.{◌≡◌, ◌≢◌, ◌↔◌, ℕ, ◌+◌, ◌*◌, ◌^◌, ◌<◌, ◌≤◌, ◌&&◌, Bool, true, false, true≢false, if◌then◌else◌, nat_eq, nat_le, nat_lt, List, [], ◌∷◌, length, get_or, take, drop, All, Option, Some, None, Result, Ok, Err, IsOk, IfOk, ok_or, inl, inr, ◌⊎◌, subst, slice_index, zero, suc, arith, refl, sym, ap, ◌∙◌}
 use Rattle.std.proofs.lemmas.Bool.{cases_eq, and_parts}
 use Rattle.std.proofs.lemmas.Bool.Decides.{nat_tests}
 use Rattle.std.proofs.lemmas.List.{length-drop}
 use Rattle.std.proofs.lemmas.List.Sums.{AllPass-from_list_all}
 use Rattle.std.proofs.lemmas.Option.{none-some}
-use Rattle.std.proofs.lemmas.Str.Parse.{IsNumeralModel, numerals_by_value, tells_all_ascii_digits, parse_plain, not_in_digits}
+use Rattle.std.proofs.lemmas.Str.Parse.{IsNumeralModel, numerals_by_value, tells_all_ascii_digits, parse_plain}
 use Rattle.std.specs.Cmp.Lexicographic.{same_text}
 use Rattle.std.specs.Int.{w128, to_be_bytes, byte_at, bytes_high_first}
 use Rattle.std.specs.List.{starts_with, list_all}
@@ -14,14 +14,14 @@ use Rattle.std.specs.Prelude.{codes}
 use Rattle.std.specs.Result.{result_ok, OkIff}
 use Rattle.std.specs.Str.{all_ascii_digits, str_eq_ignore_ascii_case}
 use Rattle.std.specs.Str.Parse.{digits_value, ParsesUnsigned}
-use Rattle.uuid.specs.Text.{by_index, hyphenated_text, parsed, parsed_simple, parsed_hyphenated, parsed_braced, parsed_urn, urn_prefix, has_urn_prefix, digits_of, is_hex_digit, value_of, byte_of_digits, hyphen_place, hex_digit_value}
+use Rattle.uuid.specs.Text.{parsed, parsed_simple, parsed_hyphenated, parsed_braced, urn_prefix, has_urn_prefix, digits_of, is_hex_digit, value_of, byte_of_digits, hyphen_place, hex_digit_value}
 use Rattle.uuid.proofs.TextLemmas
 use Rattle.uuid.proofs.TextLemmas.{by_index_length, by_index_at}
 use Rattle.aft_id.specs.TxnId.{IsUuid}
 use Rattle.aft_id.specs.UuidText.{uuid_of_digits, after_prefix, uuid_of_text}
 
 -- the decimal digits of std and their value
-decimal_digits : IsNumeralModel (λ ds. all_ascii_digits ds ≡ true) (digits_value 10)
+pub decimal_digits : IsNumeralModel (λ ds. all_ascii_digits ds ≡ true) (digits_value 10)
 decimal_digits = numerals_by_value _ tells_all_ascii_digits
 
 -- a number in digits, as `parse` reads it
@@ -29,7 +29,7 @@ abbrev IsNumber : List ℕ → Type 0
 IsNumber ds = (1 ≤ length ds) × (length ds ≤ 39) × (all_ascii_digits ds ≡ true) × (digits_value 10 ds < 2 ^ 128)
 
 uuid_of_digits_some : (ds : List ℕ) → IsNumber ds → uuid_of_digits ds ≡ Some (to_be_bytes w128 (digits_value 10 ds))
-uuid_of_digits_some ds is_number = 
+uuid_of_digits_some ds is_number =
     let some : nat_le 1 (length ds) ≡ true = grind (arith, nat_tests) in
     let few : nat_le (length ds) 39 ≡ true = grind (arith, nat_tests) in
     let fits : nat_lt (digits_value 10 ds) (2 ^ 128) ≡ true = grind (arith, nat_tests) in
@@ -206,11 +206,14 @@ names_simple s =
     let parts = and_parts (nat_eq (length s) 32) (list_all is_hex_digit s) test in
     let long : length s ≡ 32 = grind (arith, nat_tests, parts.0) in
     let digits = AllPass-from_list_all is_hex_digit s parts.1 in
-    names_some _ (by_index_length 16 (byte_of_digits s), λ k d within.
-    let place : k < 16 = omega (arith, by_index_length 16 (byte_of_digits s)) in
-    let high = digit_small (slice_index s (2 * k)) (digits (2 * k) 0 (omega arith)) in
-    let low = digit_small (slice_index s (2 * k + 1)) (digits (2 * k + 1) 0 (omega arith)) in
-    rw (by_index_at 16 (byte_of_digits s) k d place) (omega (arith, high, low))))
+    names_some _ (
+      by_index_length 16 (byte_of_digits s),
+      λ k d within.
+          let place : k < 16 = omega (arith, by_index_length 16 (byte_of_digits s)) in
+          let high = digit_small (slice_index s (2 * k)) (digits (2 * k) 0 (omega arith)) in
+          let low = digit_small (slice_index s (2 * k + 1)) (digits (2 * k + 1) 0 (omega arith)) in
+          rw (by_index_at 16 (byte_of_digits s) k d place) (omega (arith, high, low)),
+    ))
 
 names_hyphenated : (s : List ℕ) → NamesUuid (parsed_hyphenated s)
 names_hyphenated s = names_if _ _ (λ test. names_simple (digits_of s))

@@ -1,5 +1,5 @@
 -- The texts that name a UUID.
-use Rattle.std.specs.Prelude.{ℕ, ◌<◌, ◌^◌, ◌==◌, ◌&&◌, nat_eq, nat_lt, nat_le, Option, Some, None, List, length, drop, codes, if◌then◌else◌}
+use Rattle.std.specs.Prelude.{ℕ, ◌^◌, ◌&&◌, nat_eq, nat_lt, nat_le, Option, Some, None, List, length, drop, codes, if◌then◌else◌}
 use Rattle.std.specs.Int.{w128, to_be_bytes}
 use Rattle.std.specs.List.{starts_with}
 use Rattle.std.specs.Option.{option_or}

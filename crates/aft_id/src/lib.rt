@@ -11,8 +11,11 @@ mod txn_id;
 mod uuid_text;
 
 pub use fault::IdFault;
-pub use laws::id_order;
+pub use laws::{id_order, known_texts};
 pub use list::{Bytes, List, Text};
 pub use memory::Memory;
 pub use txn_id::{TxnId, uuid_bytes};
 pub use uuid_text::parse_uuid;
+
+#[cfg(test)]
+mod tests;

@@ -49,8 +49,7 @@ impl<T: Clone> Clone for List<T> {
     ghost is_clone = { AllZip T.is_clone };
 
     fn clone(&self) -> Result<List<T>, AllocError> {
-        let items = self.items.clone()?;
-        Ok(List { items })
+        Ok(List::from_vec(self.items.clone()?))
     }
 }
 
@@ -113,8 +112,7 @@ impl Clone for Bytes {
     ghost is_clone = { λ v w. w ≡ v };
 
     fn clone(&self) -> Result<Bytes, AllocError> {
-        let bytes = self.bytes.clone()?;
-        Ok(Bytes { bytes })
+        Ok(Bytes::from_vec(self.bytes.clone()?))
     }
 }
 
@@ -180,8 +178,7 @@ impl Clone for Text {
     ghost is_clone = { λ v w. w ≡ v };
 
     fn clone(&self) -> Result<Text, AllocError> {
-        let string = self.string.clone()?;
-        Ok(Text { string })
+        Ok(Text::from_string(self.string.clone()?))
     }
 }
 

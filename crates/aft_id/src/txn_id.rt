@@ -1,10 +1,10 @@
 //! Ids of transactions.
 
-ghost use Rattle.std.specs.Prelude.{◌≡◌, ◌<◌, ◌^◌, ℕ, All, IfErr, IfOk, IfSome, List, Ok, Some, length};
+ghost use Rattle.std.specs.Prelude.{◌≡◌, ◌≢◌, ◌↔◌, ◌<◌, ◌^◌, ℕ, All, IfErr, IfOk, IfSome, IsTrue, List, Ok, Some, length, slice_index};
 ghost use Rattle.std.specs.Fmt.{decimal};
 ghost use Rattle.std.specs.String.{string_bytes};
 ghost use Rattle.uuid.specs.Text.{hyphenated_text, lower};
-ghost use Rattle.aft_id.specs.TxnId.{IsUuid};
+ghost use Rattle.aft_id.specs.TxnId.{IsUuid, id_text};
 
 use crate::fault::IdFault;
 use crate::memory::Memory;
@@ -24,7 +24,7 @@ pub struct TxnId {
 }
 
 impl TxnId {
-    ghost use Rattle.aft_id.specs.TxnId.{zero_id, id_cmp, id_lt, id_text};
+    ghost use Rattle.aft_id.specs.TxnId.{zero_id, id_cmp, id_lt};
 
     /// The id at which an absent key is read: time 0 and the nil UUID. No id is below it.
     pub fn zero() -> TxnId
@@ -73,10 +73,7 @@ impl TxnId {
         ensures reads { (id : TxnId) → IsUuid id.uuid → id.time < 2 ^ 48 → text.now ≡ id_text id → result ≡ Ok id }
         ensures bad { IfErr result (λ e. e ≡ IdFault.BadId) }
     {
-        let (time, uuid) = text.split_once('-').ok_or(IdFault::BadId)?;
-        let time = read_time(time).ok_or(IdFault::BadId)?;
-        let uuid = read_hyphenated(uuid).ok_or(IdFault::BadId)?;
-        Ok(TxnId { time, uuid })
+        read_id(text).ok_or(IdFault::BadId)
     }
 }
 
@@ -101,7 +98,19 @@ fn sixteen(bytes: &[u8; 16]) -> &[u8]
 // Each byte of a slice is in its type's range.
 fn fits(bytes: &[u8])
     ensures { All (λ b. b < 256) bytes.now }
+{}
+
+// The id that a text is the text of, where its time is below 2^48.
+fn read_id(text: &str) -> Option<TxnId>
+    ensures text { IfSome result (λ id. text.now ≡ id_text id) }
+    ensures small { IfSome result (λ id. id.time < 2 ^ 48) }
+    ensures bytes { IfSome result (λ id. IsUuid id.uuid) }
+    ensures reads { (id : TxnId) → IsUuid id.uuid → id.time < 2 ^ 48 → text.now ≡ id_text id → result ≡ Some id }
 {
+    let (time, uuid) = text.split_once('-')?;
+    let time = read_time(time)?;
+    let uuid = read_hyphenated(uuid)?;
+    Some(TxnId { time, uuid })
 }
 
 // The time below 2^48 that a text is the decimal digits of.
@@ -110,11 +119,18 @@ fn read_time(text: &str) -> Option<u64>
     ensures small { IfSome result (λ time. time < 2 ^ 48) }
     ensures reads { (time : ℕ) → time < 2 ^ 48 → text.now ≡ decimal time → result ≡ Some time }
 {
-    if text.starts_with('+') || text.len() > 1 && text.starts_with('0') {
+    if !is_plain(text.as_bytes()) {
         return None;
     }
     let time = text.parse::<u64>().ok()?;
     if time < 1 << 48 { Some(time) } else { None }
+}
+
+// Whether a text has no plus in front, and no zero in front of more.
+fn is_plain(text: &[u8]) -> bool
+    ensures { IsTrue result ↔ ((slice_index text.now 0 ≢ 43) × (slice_index text.now 0 ≡ 48 → length text.now ≡ 1)) }
+{
+    !matches!(text, [b'+', ..] | [b'0', _, ..])
 }
 
 // The UUID that a text is the hyphenated form of, in lower case.
@@ -124,6 +140,7 @@ fn read_hyphenated(text: &str) -> Option<Uuid>
     ensures reads { (u : List ℕ) → IsUuid u → text.now ≡ hyphenated_text lower u → result ≡ Some u }
 {
     let uuid = Uuid::try_parse(text).ok()?;
+    // The call tells the proof that `uuid` has the bytes of a UUID.
     uuid_bytes(&uuid);
     let mut buffer = Uuid::encode_buffer();
     let written = uuid.hyphenated().encode_lower(&mut buffer);

@@ -1,4 +1,4 @@
-use Rattle.std.proofs.Common.{◌≡◌, ◌≢◌, get_or, lit<, option_map, ap, sym, ◌∙◌, Some}
+use Rattle.std.proofs.Common.{lit<, option_map, ap, sym, ◌∙◌, Some}
 use Rattle.std.specs.Int.{w128, to_be_bytes}
 use Rattle.std.proofs.lemmas.Bool.Decides.{not_from_Decides}
 use Rattle.std.proofs.lemmas.Str.Pattern.{starts_char}

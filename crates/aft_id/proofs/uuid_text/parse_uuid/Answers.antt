@@ -10,7 +10,7 @@ use Rattle.aft_id.proofs.uuid_text.parse_uuid.Goals.{in-Some, in-None}
 found : (c : goal.After-ok_or) → c.match-strip_prefix.uuid ≡ uuid_of_text c.args.text.now
 found c =
     elim c.match-strip_prefix.branch [
-      in-Some w ↦
+      | in-Some w ↦
           let cut = strip_prefix_char 64 c.args.text.now (Some w.in-Some.digits) w.in-Some.ensures.cases (lit< tt) in
           w.uuid-is ∙ w.numbered_uuid-uuid.ensures ∙ sym (at_sign w.in-Some.digits.now) ∙ ap uuid_of_text (sym cut)
       | in-None w ↦
