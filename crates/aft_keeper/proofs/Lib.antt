@@ -1,2 +1,4 @@
 pub mod Cause
+pub mod Names
 pub mod Contents
+pub mod Indexed

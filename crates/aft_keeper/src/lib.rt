@@ -5,10 +5,12 @@
 #![tactic(auto)]
 
 mod clock;
+mod copies;
 mod failures;
 mod keeper;
 mod mem_sink;
 mod mem_source;
+mod pair_map;
 mod sink;
 mod source;
 
