@@ -28,11 +28,14 @@ pub fn parse_uuid(text: &str) -> Result<Uuid, IdFault>
     uuid.ok_or(IdFault::BadUuid)
 }
 
+// As many decimal digits as the greatest number below 2^128 has.
+const MAX_DIGITS: usize = 39;
+
 // The UUID of a number in decimal digits.
 fn numbered_uuid(digits: &str) -> Option<Uuid>
     ensures { result ≡ uuid_of_digits digits.now }
 {
-    if digits.len() > 39 || digits.starts_with('+') {
+    if digits.len() > MAX_DIGITS || digits.starts_with('+') {
         return None;
     }
     let number = digits.parse::<u128>().ok()?;

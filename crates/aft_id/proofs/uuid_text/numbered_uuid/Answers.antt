@@ -11,7 +11,7 @@ returns-in_err-number c =
     (starts_char 43 c.args.digits.now c.starts_with.result c.starts_with.ensures.cases (lit< tt) (lit< tt)) c.if-starts_with.false in
     c.from_residual.ensures
     ∙ sym (ap (option_map (to_be_bytes w128)) (sym c.ok.ensures.value ∙ c.in_err-number.was))
-    ∙ parsed_number c.args.digits.now c.parse.result c.parse.ensures.value.0 unsigned c.if-digits-gt39.false
+    ∙ parsed_number c.args.digits.now c.parse.result c.parse.ensures.value.0 unsigned c.if-digits-gt-MAX_DIGITS.false
 
 pub returns : goal.returns
 returns c =
@@ -19,4 +19,4 @@ returns c =
     (starts_char 43 c.args.digits.now c.starts_with.result c.starts_with.ensures.cases (lit< tt) (lit< tt)) c.if-starts_with.false in
     ap Some c.from_u128.ensures
     ∙ sym (ap (option_map (to_be_bytes w128)) (sym c.ok.ensures.value ∙ c.in_ok-number.was))
-    ∙ parsed_number c.args.digits.now c.parse.result c.parse.ensures.value.0 unsigned c.if-digits-gt39.false
+    ∙ parsed_number c.args.digits.now c.parse.result c.parse.ensures.value.0 unsigned c.if-digits-gt-MAX_DIGITS.false
