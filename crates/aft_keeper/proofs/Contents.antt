@@ -1,15 +1,16 @@
 -- What stands under each name of a list of pairs, and lists of pairs that ascend.
-use Rattle.std.proofs.Common.{ℕ, zero, suc, ◌+◌, ◌++◌, ◌≡◌, ◌≢◌, refl, sym, ◌∙◌, ap, subst, List, [], ◌∷◌, Bool, true, false, cond, arith, ◌⊎◌, take, inl, inr, Option, None, Some, not, IsTrue}
+use Rattle.std.proofs.Common.{ℕ, zero, suc, ◌+◌, ◌++◌, ◌≡◌, ◌≢◌, refl, sym, ◌∙◌, ap, subst, List, [], ◌∷◌, Bool, true, false, cond, arith, take, inl, inr, None, Some, IsTrue}
 use Rattle.std.specs.Prelude.{find, option_map, ⊤, All, filter, take_while, Contains}
 use Rattle.std.specs.List.{AllByRecursion, prefix_len}
 use Rattle.std.specs.Str.{bytes_eq}
 use Rattle.std.specs.declared.cmp.Ordering.TheVariants.{Less}
 use Rattle.std.specs.Ordering.{is_le}
 use Rattle.std.proofs.lemmas.Bool.{cases_Bool, cond_both, and_left, and_right, and_from}
-use Rattle.std.proofs.lemmas.List.Elements.{Contains-get_or, Contains-append_right, All-filter, All-cons, All-head, All-tail}
+use Rattle.std.proofs.lemmas.List.Elements.{All-take, filter_passes, Contains-get_or, Contains-append_right, All-filter, All-cons, All-head, All-tail}
+use Rattle.std.proofs.lemmas.List.{length-take}
 use Rattle.std.proofs.lemmas.Slice.Eq.{bytes_eq-Decides}
 use Rattle.aft_keeper.proofs.Names.{name_cmp, begins, begins-after, begins-below, not_upto, upto-Less, Less-upto, Less-from_name_lt, name_lt-from_Less, Less-trans, cases_name, bytes_eq-refl, bytes_eq-Less, bytes_eq-Greater, name_lt-Greater, Greater-from_tests}
-use Rattle.aft_keeper.specs.Contents.{name_lt, is_scanned, Ascends, IsContents, page_of, bytes_at, with_pair, without}
+use Rattle.aft_keeper.specs.Contents.{name_lt, is_scanned, Ascends, IsContents, IsPage, page_of, bytes_at, with_pair, without}
 use Rattle.aft_keeper.specs.declared.keeper.Pair.{Pair}
 
 -- the bytes under a name are those of the first pair of this name
@@ -233,3 +234,13 @@ with_pair-last (q ∷ pairs) p up =
     let apart : bytes_eq p.name q.name ≡ false = bytes_eq-Greater p.name q.name less in
     let not_less : name_lt p.name q.name ≡ false = name_lt-Greater p.name q.name less in
     rw (apart, not_less) (ap (λ xs. q ∷ xs) (with_pair-last pairs p up.1))
+
+-- a page of what is in order has the shape of a page
+pub IsPage-page_of : (prefix after : List ℕ) (limit : ℕ) (pairs : List Pair) → IsContents pairs → IsPage prefix after limit (page_of prefix after limit pairs)
+IsPage-page_of prefix after limit pairs contents =
+    let shown : List Pair = filter (λ (p : Pair). is_scanned prefix after p.name) pairs in
+    record {
+      scanned = All-take (λ (p : Pair). IsTrue (is_scanned prefix after p.name)) limit shown (filter_passes (λ (p : Pair). is_scanned prefix after p.name) pairs);
+      ascends = Ascends-from_IsRising _ (IsRising-take limit shown (IsRising-filter _ pairs (IsRising-from_Ascends pairs contents.0)));
+      few = omega (arith, length-take limit shown);
+    }

@@ -1,5 +1,5 @@
 -- Pairs as an index shows them.
-use Rattle.std.proofs.Common.{ℕ, ◌≡◌, ◌≢◌, ◌+◌, ◌-◌, ◌<◌, ◌≤◌, refl, sym, ◌∙◌, ap, subst, List, [], ◌∷◌, ◌++◌, length, suc, take, append_assoc, Bool, true, false, cond, arith, ◌⊎◌, inl, inr, Option, None, Some}
+use Rattle.std.proofs.Common.{ℕ, ◌≡◌, ◌≢◌, ◌+◌, ◌-◌, ◌<◌, ◌≤◌, refl, sym, ◌∙◌, ap, subst, List, [], ◌∷◌, ◌++◌, length, suc, take, append_assoc, Bool, true, false, cond, arith, inl, inr, Option, None, Some}
 use Rattle.std.specs.Prelude.{option_map, slice_set, take_while, filter, ◌&&◌, All, Contains}
 use Rattle.std.specs.BTreeMap.{BTreeMap}
 use Rattle.std.specs.String.{string_cmp_total}

@@ -1,5 +1,5 @@
-use Rattle.std.proofs.Common.{ℕ, ◌≡◌, ◌∙◌, sym, ap, subst, arith, true, false, List, take}
-use Rattle.std.specs.Prelude.{All, take_while}
+use Rattle.std.proofs.Common.{◌≡◌, ◌∙◌, sym, ap, true, false, take}
+use Rattle.std.specs.Prelude.{take_while}
 use Rattle.std.specs.Ordering.{is_le}
 use Rattle.std.specs.String.{string_bytes}
 use Rattle.std.proofs.lemmas.Result.{IfOk-weaker}
