@@ -1,14 +1,16 @@
 -- What stands under each name of a list of pairs, and lists of pairs that ascend.
-use Rattle.std.proofs.Common.{ℕ, ◌≡◌, ◌≢◌, refl, sym, ◌∙◌, ap, subst, List, [], ◌∷◌, Bool, true, false, cond, arith, ◌⊎◌, inl, inr, Option, None, Some, not, IsTrue}
-use Rattle.std.specs.Prelude.{find, option_map, ⊤, All, filter, Contains}
-use Rattle.std.specs.List.{AllByRecursion}
+use Rattle.std.proofs.Common.{ℕ, zero, suc, ◌+◌, ◌++◌, ◌≡◌, ◌≢◌, refl, sym, ◌∙◌, ap, subst, List, [], ◌∷◌, Bool, true, false, cond, arith, take, inl, inr, None, Some, IsTrue}
+use Rattle.std.specs.Prelude.{find, option_map, ⊤, All, filter, take_while, Contains}
+use Rattle.std.specs.List.{AllByRecursion, prefix_len}
 use Rattle.std.specs.Str.{bytes_eq}
 use Rattle.std.specs.declared.cmp.Ordering.TheVariants.{Less}
-use Rattle.std.proofs.lemmas.Bool.{cases_Bool, cond_both}
-use Rattle.std.proofs.lemmas.List.Elements.{Contains-get_or, Contains-append_right, All-filter, All-cons, All-head, All-tail}
+use Rattle.std.specs.Ordering.{is_le}
+use Rattle.std.proofs.lemmas.Bool.{cases_Bool, cond_both, and_left, and_right, and_from}
+use Rattle.std.proofs.lemmas.List.Elements.{All-take, filter_passes, Contains-get_or, Contains-append_right, All-filter, All-cons, All-head, All-tail}
+use Rattle.std.proofs.lemmas.List.{length-take}
 use Rattle.std.proofs.lemmas.Slice.Eq.{bytes_eq-Decides}
-use Rattle.aft_keeper.proofs.Names.{name_cmp, Less-from_name_lt, name_lt-from_Less, Less-trans, cases_name, bytes_eq-refl, bytes_eq-Less, Greater-from_tests}
-use Rattle.aft_keeper.specs.Contents.{name_lt, Ascends, IsContents, bytes_at, with_pair, without}
+use Rattle.aft_keeper.proofs.Names.{name_cmp, begins, begins-after, begins-below, not_upto, upto-Less, Less-upto, Less-from_name_lt, name_lt-from_Less, Less-trans, cases_name, bytes_eq-refl, bytes_eq-Less, bytes_eq-Greater, name_lt-Greater, Greater-from_tests}
+use Rattle.aft_keeper.specs.Contents.{name_lt, is_scanned, Ascends, IsContents, IsPage, page_of, bytes_at, with_pair, without}
 use Rattle.aft_keeper.specs.declared.keeper.Pair.{Pair}
 
 -- the bytes under a name are those of the first pair of this name
@@ -147,3 +149,98 @@ Contains-from_bytes_at name bytes (p ∷ pairs) is = elim (cases_Bool (bytes_eq 
       let P : Pair → Type 0 = Contains (p ∷ pairs) in subst P (sym same) (Contains-get_or (p ∷ pairs) 0 p (omega arith))
   | inr apart ↦ Contains-append_right (p ∷ []) pairs _ (Contains-from_bytes_at name bytes pairs (grind arith))
 ]
+
+pub take_while-more : (test : Pair → Bool) (p : Pair) (pairs : List Pair) → test p ≡ true → take_while test (p ∷ pairs) ≡ p ∷ take_while test pairs
+take_while-more test p pairs passes =
+    let n = prefix_len test pairs in
+    let next : 1 + n ≡ suc n = omega arith in
+    ap (λ m. take m (p ∷ pairs)) (ap (λ b. cond b (1 + n) 0) passes ∙ next)
+
+pub take_while-end : (test : Pair → Bool) (p : Pair) (pairs : List Pair) → test p ≡ false → take_while test (p ∷ pairs) ≡ []
+take_while-end test p pairs fails = rw fails refl
+
+-- a test of the names that shows where a scan begins, over names in order
+module _ (prefix after : List ℕ) (from : List ℕ → Bool)
+    (before : (n : List ℕ) → from n ≡ false → is_scanned prefix after n ≡ false)
+    (past : (n : List ℕ) → from n ≡ true → name_lt after n ≡ true)
+    (first : (n m : List ℕ) → from n ≡ true → begins prefix n ≡ false → name_cmp n m ≡ Less → begins prefix m ≡ false) where
+  none_scanned : (n : List ℕ) (pairs : List Pair) → from n ≡ true → begins prefix n ≡ false → AllAbove n pairs → filter (λ (p : Pair). is_scanned prefix after p.name) pairs ≡ []
+  none_scanned n [] here not_begun above = refl
+  none_scanned n (p ∷ pairs) here not_begun above =
+      let e : begins prefix p.name ≡ false = first n p.name here not_begun above.0 in
+      let e' : is_scanned prefix after p.name ≡ false = and_left (begins prefix p.name) (name_lt after p.name) e in
+      rw e' (none_scanned n pairs here not_begun above.1)
+
+  -- what a scan shows stands at the beginning of what it goes over
+  pub take_while-from : (pairs : List Pair) → IsRising pairs
+      → take_while (λ (p : Pair). begins prefix p.name) (filter (λ (p : Pair). from p.name) pairs) ≡ filter (λ (p : Pair). is_scanned prefix after p.name) pairs
+  take_while-from [] up = refl
+  take_while-from (p ∷ pairs) up = elim (cases_Bool (from p.name)) [
+    | inr low ↦ let e = before p.name low in rw (low, e) (take_while-from pairs up.1)
+    | inl here ↦ elim (cases_Bool (begins prefix p.name)) [
+      | inl begun ↦
+          let e : is_scanned prefix after p.name ≡ true = and_from (begins prefix p.name) (name_lt after p.name) begun (past p.name here) in
+          rw (here, e) (take_while-more (λ (p : Pair). begins prefix p.name) p _ begun ∙ ap (λ xs. p ∷ xs) (take_while-from pairs up.1))
+      | inr over ↦
+          let e : is_scanned prefix after p.name ≡ false = and_left (begins prefix p.name) (name_lt after p.name) over in
+          rw (here, e) (take_while-end (λ (p : Pair). begins prefix p.name) p _ over ∙ sym (none_scanned p.name pairs here over up.0))
+    ]
+  ]
+
+-- a page, read from names past the start on
+pub page-past : (prefix after : List ℕ) (limit : ℕ) (pairs : List Pair) → is_le (name_cmp prefix after) ≡ true → IsRising pairs
+    → take limit (take_while (λ (p : Pair). begins prefix p.name) (filter (λ (p : Pair). name_lt after p.name) pairs)) ≡ page_of prefix after limit pairs
+page-past prefix after limit pairs above up = ap (take limit) (take_while-from prefix after (name_lt after)
+    (λ n low. and_right (begins prefix n) (name_lt after n) low)
+    (λ n here. here)
+    (λ n m here over less. begins-after prefix n m (ap is_le (upto-Less prefix after n above (Less-from_name_lt after n here))) over less)
+    pairs up)
+
+-- or from the prefix on
+pub page-from : (prefix after : List ℕ) (limit : ℕ) (pairs : List Pair) → is_le (name_cmp prefix after) ≡ false → IsRising pairs
+    → take limit (take_while (λ (p : Pair). begins prefix p.name) (filter (λ (p : Pair). is_le (name_cmp prefix p.name)) pairs)) ≡ page_of prefix after limit pairs
+page-from prefix after limit pairs below up = ap (take limit) (take_while-from prefix after (λ n. is_le (name_cmp prefix n))
+    (λ n low. and_left (begins prefix n) (name_lt after n) (begins-below prefix n low))
+    (λ n here. name_lt-from_Less after n (Less-upto after prefix n (not_upto prefix after below) here))
+    (λ n m here over less. begins-after prefix n m here over less)
+    pairs up)
+
+AllAbove-take : (low : List ℕ) (n : ℕ) (pairs : List Pair) → AllAbove low pairs → AllAbove low (take n pairs)
+AllAbove-take low zero pairs above = tt
+AllAbove-take low (suc n) [] above = tt
+AllAbove-take low (suc n) (p ∷ pairs) above = (above.0, AllAbove-take low n pairs above.1)
+
+pub IsRising-take : (n : ℕ) (pairs : List Pair) → IsRising pairs → IsRising (take n pairs)
+IsRising-take zero pairs up = tt
+IsRising-take (suc n) [] up = tt
+IsRising-take (suc n) (p ∷ pairs) up = (AllAbove-take p.name n pairs up.0, IsRising-take n pairs up.1)
+
+AllAbove-last : (low : List ℕ) (pairs : List Pair) (p : Pair) → AllAbove low (pairs ++ p ∷ []) → name_cmp low p.name ≡ Less
+AllAbove-last low [] p above = above.0
+AllAbove-last low (q ∷ pairs) p above = AllAbove-last low pairs p above.1
+
+-- the last of pairs in order has a name of its own
+pub bytes_at-last_absent : (pairs : List Pair) (p : Pair) → IsRising (pairs ++ p ∷ []) → bytes_at p.name pairs ≡ None
+bytes_at-last_absent [] p up = refl
+bytes_at-last_absent (q ∷ pairs) p up =
+    let apart : bytes_eq p.name q.name ≡ false = bytes_eq-Greater p.name q.name (AllAbove-last q.name pairs p up.0) in
+    rw apart (bytes_at-last_absent pairs p up.1)
+
+-- and setting it adds it at the end
+pub with_pair-last : (pairs : List Pair) (p : Pair) → IsRising (pairs ++ p ∷ []) → with_pair p.name p.bytes pairs ≡ pairs ++ p ∷ []
+with_pair-last [] p up = refl
+with_pair-last (q ∷ pairs) p up =
+    let less : name_cmp q.name p.name ≡ Less = AllAbove-last q.name pairs p up.0 in
+    let apart : bytes_eq p.name q.name ≡ false = bytes_eq-Greater p.name q.name less in
+    let not_less : name_lt p.name q.name ≡ false = name_lt-Greater p.name q.name less in
+    rw (apart, not_less) (ap (λ xs. q ∷ xs) (with_pair-last pairs p up.1))
+
+-- a page of what is in order has the shape of a page
+pub IsPage-page_of : (prefix after : List ℕ) (limit : ℕ) (pairs : List Pair) → IsContents pairs → IsPage prefix after limit (page_of prefix after limit pairs)
+IsPage-page_of prefix after limit pairs contents =
+    let shown : List Pair = filter (λ (p : Pair). is_scanned prefix after p.name) pairs in
+    record {
+      scanned = All-take (λ (p : Pair). IsTrue (is_scanned prefix after p.name)) limit shown (filter_passes (λ (p : Pair). is_scanned prefix after p.name) pairs);
+      ascends = Ascends-from_IsRising _ (IsRising-take limit shown (IsRising-filter _ pairs (IsRising-from_Ascends pairs contents.0)));
+      few = omega (arith, length-take limit shown);
+    }

@@ -1,27 +1,28 @@
 -- Pairs as an index shows them.
-use Rattle.std.proofs.Common.{ℕ, ◌≡◌, ◌≢◌, ◌+◌, ◌<◌, ◌≤◌, refl, sym, ◌∙◌, ap, subst, List, [], ◌∷◌, ◌++◌, length, Bool, true, false, cond, arith, ◌⊎◌, inl, inr, Option, None, Some}
-use Rattle.std.specs.Prelude.{option_map, slice_set, All, Contains}
+use Rattle.std.proofs.Common.{ℕ, ◌≡◌, ◌≢◌, ◌+◌, ◌-◌, ◌<◌, ◌≤◌, refl, sym, ◌∙◌, ap, subst, List, [], ◌∷◌, ◌++◌, length, suc, take, append_assoc, Bool, true, false, cond, arith, inl, inr, Option, None, Some}
+use Rattle.std.specs.Prelude.{option_map, slice_set, take_while, filter, ◌&&◌, All, Contains}
 use Rattle.std.specs.BTreeMap.{BTreeMap}
 use Rattle.std.specs.String.{string_cmp_total}
 use Rattle.std.proofs.Common.{get_or}
 use Rattle.std.proofs.lemmas.Map.Views.{All-found}
 use Rattle.std.proofs.lemmas.List.Elements.{All-map, All-from_get_or, Contains-get_or}
 use Rattle.std.specs.Str.{bytes_eq}
+use Rattle.std.specs.Ordering.{is_lt, is_le}
 use Rattle.std.specs.List.{AllByRecursion}
 use Rattle.std.specs.List.Sorted.{IsStrictlySortedBy}
 use Rattle.std.specs.Map.{keys_of}
 use Rattle.std.specs.declared.cmp.Ordering.TheVariants.{Less}
 use Rattle.std.specs.declared.string.String.{String}
 use Rattle.std.specs.String.{string_bytes, string_cmp}
-use Rattle.std.proofs.lemmas.List.{get_or_default, get_or_push, get_or_append_left, get_or-set_same, get_or-set_other, length-append, length-set}
+use Rattle.std.proofs.lemmas.List.{get_or_default, get_or_push, get_or_append_left, get_or-set_same, get_or-set_other, length-append, length-set, length-take, take_more}
 use Rattle.std.proofs.lemmas.Bool.{cases_Bool, cases_lt, cases_eq, false_from_ne_true}
 use Rattle.std.proofs.lemmas.Cmp.{nat_list_eq_equiv}
 use Rattle.std.proofs.lemmas.Map.Keys.{sorted_head, sorted_tail}
 use Rattle.std.proofs.lemmas.Map.Text.{is_eq-slice_cmp}
 use Rattle.std.proofs.lemmas.Slice.Eq.{bytes_eq-Decides}
-use Rattle.aft_keeper.proofs.Names.{name_cmp, bytes_eq-refl}
-use Rattle.aft_keeper.proofs.Contents.{AllAbove, IsRising, IsRising-from_Ascends, same_from_bytes_at, Contains-from_bytes_at, bytes_at-with_pair, bytes_at-without, IsContents-with_pair, IsContents-without}
-use Rattle.aft_keeper.specs.Contents.{IsContents, bytes_at, with_pair, without}
+use Rattle.aft_keeper.proofs.Names.{name_cmp, begins, bytes_eq-refl}
+use Rattle.aft_keeper.proofs.Contents.{AllAbove, IsRising, IsRising-from_Ascends, same_from_bytes_at, Contains-from_bytes_at, take_while-more, IsRising-take, bytes_at-last_absent, with_pair-last, page-past, page-from, bytes_at-with_pair, bytes_at-without, IsContents-with_pair, IsContents-without}
+use Rattle.aft_keeper.specs.Contents.{IsContents, name_lt, page_of, bytes_at, with_pair, without}
 use Rattle.aft_keeper.specs.PairMap.{pair_at, Stands, place_of, indexed_pair, indexed, IsIndexed}
 use Rattle.aft_keeper.specs.declared.keeper.Pair.{Pair}
 
@@ -226,6 +227,10 @@ module _ (pairs pairs' : List Pair) (f g : List ℕ → Option ℕ) (name : List
     ]
   ]
 
+and-true : (b : Bool) → (b && true) ≡ b
+and-true true = refl
+and-true false = refl
+
 module _ {Z : Type 0} where
   pub bytes_at-indexed : (name : List ℕ) (pairs : List Pair) (places : List (String Z × ℕ)) → bytes_at name (indexed pairs places) ≡ option_map (λ i. (pair_at pairs i).bytes) (place_of name places)
   bytes_at-indexed name pairs [] = refl
@@ -324,13 +329,17 @@ module _ {Z : Type 0} where
       (IsContents-without name (indexed pairs places) was.in_order)
       (λ q. bytes_by-removed pairs pairs' f g name place fits there shorter moved stayed now q ∙ shown_without pairs places name q)
 
+  -- an entry of the index shows the pair at its place
+  pub indexed_pair-stands : (pairs : List Pair) (entry : String Z × ℕ) → Stands pairs (string_bytes entry.0) entry.1 → indexed_pair pairs entry ≡ pair_at pairs entry.1
+  indexed_pair-stands pairs entry stood = let named = stood.named in grind arith
+
   -- the pairs that an index shows are those at its places
   pub All-contained : (pairs : List Pair) (places : BTreeMap (String Z) ℕ) → IsIndexed pairs places.entries → All (Contains pairs) (indexed pairs places.entries)
   All-contained pairs places was = All-map (Contains pairs) (indexed_pair pairs) places.entries (λ k d within.
       let e = get_or places.entries k d in
       let found : place_of (string_bytes e.0) places.entries ≡ Some e.1 = All-found string_cmp_total places was.ordered k d within in
       let stood = was.found (string_bytes e.0) e.1 found in
-      let same : indexed_pair pairs e ≡ pair_at pairs e.1 = let named = stood.named in grind arith in
+      let same : indexed_pair pairs e ≡ pair_at pairs e.1 = indexed_pair-stands pairs e stood in
       let P : Pair → Type 0 = Contains pairs in subst P (sym same) (Contains-get_or pairs e.1 _ stood.within))
 
   pub All-shown : (pairs : List Pair) (places : List (String Z × ℕ)) → IsIndexed pairs places → All (Contains (indexed pairs places)) pairs
@@ -392,3 +401,79 @@ module _ {Z : Type 0} where
         doubled : (b : Bool) (before : Option ℕ) → cond b None before ≡ cond b None (cond b (Some place) before)
         doubled true before = refl
         doubled false before = refl
+
+  -- one more pair of a page
+  pub page-more : (prefix : List ℕ) (pairs taken : List Pair) (limit : ℕ) (entry : String Z × ℕ) (rest entries : List (String Z × ℕ)) (copy : Pair) (target : List Pair)
+      → entries ≡ entry ∷ rest → Stands pairs (string_bytes entry.0) entry.1 → copy ≡ pair_at pairs entry.1 → begins prefix (string_bytes entry.0) ≡ true
+      → length taken < limit
+      → taken ++ take (limit - length taken) (take_while (λ (p : Pair). begins prefix p.name) (indexed pairs entries)) ≡ target
+      → (taken ++ copy ∷ []) ++ take (limit - length (taken ++ copy ∷ [])) (take_while (λ (p : Pair). begins prefix p.name) (indexed pairs rest)) ≡ target
+  page-more prefix pairs taken limit entry rest entries copy target split stood copied begun room before =
+      let test : Pair → Bool = λ (p : Pair). begins prefix p.name in
+      let shown : indexed_pair pairs entry ≡ copy = indexed_pair-stands pairs entry stood ∙ sym copied in
+      let front : take_while test (indexed pairs entries) ≡ copy ∷ take_while test (indexed pairs rest) =
+      ap (λ es. take_while test (indexed pairs es)) split ∙ take_while-more test (indexed_pair pairs entry) (indexed pairs rest) begun ∙ ap (λ p. p ∷ take_while test (indexed pairs rest)) shown in
+      let fewer : limit - length taken ≡ suc (limit - length (taken ++ copy ∷ [])) = omega (arith, length-append taken (copy ∷ [])) in
+      let step : take (limit - length taken) (take_while test (indexed pairs entries)) ≡ copy ∷ take (limit - length (taken ++ copy ∷ [])) (take_while test (indexed pairs rest)) =
+      ap (take (limit - length taken)) front ∙ ap (λ n. take n (copy ∷ take_while test (indexed pairs rest))) fewer in
+      append_assoc taken (copy ∷ []) _ ∙ ap (λ xs. taken ++ xs) (sym step) ∙ before
+
+  -- each entry's name stands at its place
+  pub All-stands : (pairs : List Pair) (places : BTreeMap (String Z) ℕ) → IsIndexed pairs places.entries → All (λ e. Stands pairs (string_bytes e.0) e.1) places.entries
+  All-stands pairs places was k d within =
+      let e = get_or places.entries k d in
+      let found : place_of (string_bytes e.0) places.entries ≡ Some e.1 = All-found string_cmp_total places was.ordered k d within in
+      was.found (string_bytes e.0) e.1 found
+
+  -- a part of the index shows that part of the pairs
+  indexed-filter : (test : List ℕ → Bool) (passes : String Z × ℕ → Bool) (pairs : List Pair) → ((e : String Z × ℕ) → passes e ≡ test (string_bytes e.0))
+      → (places : List (String Z × ℕ)) → indexed pairs (filter passes places) ≡ filter (λ (p : Pair). test p.name) (indexed pairs places)
+  indexed-filter test passes pairs same [] = refl
+  indexed-filter test passes pairs same (e ∷ places) =
+      let here = same e in
+      let tail = indexed-filter test passes pairs same places in
+      elim (cases_Bool (test (string_bytes e.0))) [
+        | inl yes' ↦ let e' : passes e ≡ true = here ∙ yes' in rw (e', yes') (ap (λ xs. indexed_pair pairs e ∷ xs) tail)
+        | inr no' ↦ let e' : passes e ≡ false = here ∙ no' in rw (e', no') tail
+      ]
+
+  -- a page is read from the entries past a key
+  pub page-past-indexed : (prefix after : List ℕ) (limit : ℕ) (pairs : List Pair) (places range : List (String Z × ℕ)) (key : String Z) → is_le (name_cmp prefix after) ≡ true
+      → IsStrictlySortedBy string_cmp (keys_of places) → string_bytes key ≡ after → range ≡ filter (λ e. is_lt (string_cmp key e.0) && true) places
+      → take limit (take_while (λ (p : Pair). begins prefix p.name) (indexed pairs range)) ≡ page_of prefix after limit (indexed pairs places)
+  page-past-indexed prefix after limit pairs places range key le ordered keyed ranged =
+      ap (λ es. take limit (take_while (λ (p : Pair). begins prefix p.name) (indexed pairs es))) ranged
+      ∙ ap (λ xs. take limit (take_while (λ (p : Pair). begins prefix p.name) xs))
+      (indexed-filter (name_lt after) _ pairs (λ e. and-true (is_lt (string_cmp key e.0)) ∙ ap (λ n. name_lt n (string_bytes e.0)) keyed) places)
+      ∙ page-past prefix after limit (indexed pairs places) le (IsRising-indexed pairs places ordered)
+
+  -- or from a key on
+  pub page-from-indexed : (prefix after : List ℕ) (limit : ℕ) (pairs : List Pair) (places range : List (String Z × ℕ)) (key : String Z) → is_le (name_cmp prefix after) ≡ false
+      → IsStrictlySortedBy string_cmp (keys_of places) → string_bytes key ≡ prefix → range ≡ filter (λ e. is_le (string_cmp key e.0) && true) places
+      → take limit (take_while (λ (p : Pair). begins prefix p.name) (indexed pairs range)) ≡ page_of prefix after limit (indexed pairs places)
+  page-from-indexed prefix after limit pairs places range key le ordered keyed ranged =
+      ap (λ es. take limit (take_while (λ (p : Pair). begins prefix p.name) (indexed pairs es))) ranged
+      ∙ ap (λ xs. take limit (take_while (λ (p : Pair). begins prefix p.name) xs))
+      (indexed-filter (λ n. is_le (name_cmp prefix n)) _ pairs (λ e. and-true (is_le (string_cmp key e.0)) ∙ ap (λ n. is_le (name_cmp n (string_bytes e.0))) keyed) places)
+      ∙ page-from prefix after limit (indexed pairs places) le (IsRising-indexed pairs places ordered)
+
+  -- the index of the first pairs of a list in order, with one more
+  pub Shows-more : (all : List Pair) (i : ℕ) (places places' : List (String Z × ℕ)) → IsContents all → i < length all → Shows (take i all) places (take i all)
+      → IsStrictlySortedBy string_cmp (keys_of places') → (place_of (pair_at all i).name places ≡ None → length places' ≡ length places + 1)
+      → ((q : List ℕ) → place_of q places' ≡ cond (bytes_eq (pair_at all i).name q) (Some i) (place_of q places))
+      → Shows (take (i + 1) all) places' (take (i + 1) all)
+  Shows-more all i places places' contents within was ordered longer now =
+      let p = pair_at all i in
+      let next : take (i + 1) all ≡ take i all ++ p ∷ [] = take_more all i _ within in
+      let up : IsRising (take i all ++ p ∷ []) = let P : List Pair → Type 0 = IsRising in subst P next (IsRising-take (i + 1) all (IsRising-from_Ascends all contents.0)) in
+      let nothing : bytes_at p.name (indexed (take i all) places) ≡ None = rw was.shows (bytes_at-last_absent (take i all) p up) in
+      let absent : place_of p.name places ≡ None = none_from_map (take i all) (place_of p.name places) (sym (bytes_at-indexed p.name (take i all) places) ∙ nothing) in
+      let many : length (take i all) ≡ i = omega (arith, length-take i all) in
+      let shown : with_pair p.name p.bytes (indexed (take i all) places) ≡ take (i + 1) all = ap (with_pair p.name p.bytes) was.shows ∙ with_pair-last (take i all) p up ∙ sym next in
+      let P : List Pair → Type 0 = Shows (take (i + 1) all) places' in
+      subst P shown (Shows-added (take i all) (take (i + 1) all) places places' p.name p.bytes was.indexed_well absent (contents.1 i _ within) next ordered (longer absent)
+      (λ q. now q ∙ ap (λ n. cond (bytes_eq p.name q) (Some n) (place_of q places)) (sym many)))
+    where
+      none_from_map : (pairs : List Pair) (o : Option ℕ) → option_map (λ i. (pair_at pairs i).bytes) o ≡ None → o ≡ None
+      none_from_map pairs None is = refl
+      none_from_map pairs (Some k) is = absurd (grind arith)

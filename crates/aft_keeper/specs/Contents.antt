@@ -5,6 +5,8 @@ use Rattle.std.specs.Prelude.{nat_eq}
 use Rattle.std.specs.Ordering.{is_lt, nat_cmp}
 use Rattle.std.specs.Cmp.Lexicographic.{slice_cmp}
 use Rattle.std.specs.Str.{bytes_eq}
+use Rattle.std.specs.Coded.{×_prop, Unit-prop}
+use Rattle.std.proofs.Props.{props}
 use Rattle.aft_keeper.specs.declared.keeper.Pair.{Pair}
 
 -- names are ordered byte by byte
@@ -20,6 +22,15 @@ Ascends (p ∷ q ∷ pairs) = IsTrue (name_lt p.name q.name) × Ascends (q ∷ p
 -- what a store may hold: each name once, in order, none empty
 abbrev pub IsContents : List Pair → Type 0
 IsContents pairs = Ascends pairs × All (λ p. p.name ≢ []) pairs
+
+-- what a store may hold is so in one way
+pub IsContents-prop : (pairs : List Pair) → IsProp (IsContents pairs)
+IsContents-prop pairs = ×_prop (Ascends-prop pairs) (hlevel props)
+  where
+    Ascends-prop : (pairs : List Pair) → IsProp (Ascends pairs)
+    Ascends-prop [] = Unit-prop
+    Ascends-prop (p ∷ []) = Unit-prop
+    Ascends-prop (p ∷ q ∷ pairs) = ×_prop (hlevel props) (Ascends-prop (q ∷ pairs))
 
 -- the bytes under a name
 abbrev pub bytes_at : List ℕ → List Pair → Option (List ℕ)

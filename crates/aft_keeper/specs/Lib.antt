@@ -6,3 +6,5 @@ pub mod PairMap
 pub mod Failures
 pub mod MemSink
 pub mod MemSource
+pub mod Fate
+pub mod MemKeeper

@@ -7,6 +7,7 @@ ghost use Rattle.aft_keeper.specs.Contents.{IsContents, IsPage, bytes_at, page_o
 ghost use Rattle.aft_keeper.specs.Calls.{ChangesBy, logged, get_answer, done_answer, page_answer};
 
 use aft_id::{Bytes, List, Text};
+use std::alloc::{AllocError, AllocFailed};
 use thiserror::Error;
 
 /// A name in the store, and its bytes.
@@ -60,6 +61,28 @@ pub enum KeeperFault {
     /// Memory ran out. Nothing happened.
     #[error("out of memory")]
     Memory,
+}
+
+impl From<AllocError> for KeeperFault {
+    ghost use Rattle.std.specs.Prelude.{◌≡◌};
+    ghost use Rattle.aft_keeper.specs.declared.keeper.KeeperFault.TheVariants.{Memory};
+
+    ghost from_gives = { λ _ fault. fault ≡ Memory };
+
+    fn from(_e: AllocError) -> KeeperFault {
+        KeeperFault::Memory
+    }
+}
+
+impl<T: Drop> From<AllocFailed<T>> for KeeperFault {
+    ghost use Rattle.std.specs.Prelude.{◌≡◌};
+    ghost use Rattle.aft_keeper.specs.declared.keeper.KeeperFault.TheVariants.{Memory};
+
+    ghost from_gives = { λ _ fault. fault ≡ Memory };
+
+    fn from(_e: AllocFailed<T>) -> KeeperFault {
+        KeeperFault::Memory
+    }
 }
 
 /// A plain, durable store of bytes under names, which promises nothing about several names together.

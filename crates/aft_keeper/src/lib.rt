@@ -7,7 +7,9 @@
 mod clock;
 mod copies;
 mod failures;
+mod fate;
 mod keeper;
+mod mem_keeper;
 mod mem_sink;
 mod mem_source;
 mod pair_map;
@@ -15,7 +17,9 @@ mod sink;
 mod source;
 
 pub use clock::{Clock, FixedClock};
+pub use fate::Fail;
 pub use keeper::{Keeper, KeeperAnswer, KeeperCall, KeeperEntry, KeeperFault, Pair};
+pub use mem_keeper::MemKeeper;
 pub use mem_sink::MemSink;
 pub use mem_source::MemSource;
 pub use sink::{Sink, SinkFault};

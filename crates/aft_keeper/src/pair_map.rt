@@ -1,19 +1,22 @@
 //! Pairs of name and bytes, found by name.
 
-ghost use Rattle.std.specs.Prelude.{◌≡◌, ◌≢◌, ℕ, [], None, Some, IsSome, List, if◌then◌else◌, length, IfOk, OnOk, OnErr, Contains, All, option_copied};
-ghost use Rattle.std.specs.String.{string_cmp};
+ghost use Rattle.std.specs.Prelude.{◌≡◌, ◌≢◌, ℕ, [], None, Some, IsSome, List, if◌then◌else◌, length, IfOk, OnOk, OnErr, Contains, All, option_copied, nat_eq, take, take_while};
+ghost use Rattle.std.specs.String.{string_cmp, string_bytes};
+ghost use Rattle.std.specs.List.{starts_with};
 ghost use Rattle.std.specs.Str.{bytes_eq};
 ghost use Rattle.std.specs.Map.{keys_of};
 ghost use Rattle.std.specs.List.Sorted.{IsStrictlySortedBy};
-ghost use Rattle.aft_keeper.specs.PairMap.{IsIndexed, indexed, place_of};
+ghost use Rattle.aft_keeper.specs.PairMap.{IsIndexed, Stands, indexed, place_of};
 ghost use Rattle.aft_keeper.specs.Contents.{IsContents, bytes_at, page_of, with_pair, without};
 
-use crate::copies::{copy_bytes, copy_text, push_within};
+use crate::copies::{copy_bytes, copy_pair, copy_text, push_within};
 use crate::keeper::Pair;
-use aft_id::Bytes;
+use aft_id::{Bytes, List};
 use std::alloc::{AllocError, Global};
 use std::collections::BTreeMap;
+use std::collections::btree_map::Range;
 use std::marker::Model;
+use std::ops::Bound;
 
 /// Pairs with distinct names that aren't empty, in the order in which they came, and an index of their
 /// names. Contracts see them ascending by name.
@@ -37,15 +40,18 @@ impl Model for PairMap {
 }
 
 impl PairMap {
-    /// No pairs. Takes no memory.
-    pub(crate) fn new(alloc: Global) -> PairMap
-        ensures { result ≡ [] }
+    /// These pairs. Takes memory for the index alone.
+    pub(crate) fn from_pairs(alloc: Global, pairs: List<Pair>) -> Result<PairMap, AllocError>
+        requires { IsContents pairs }
+        ensures { IfOk result (λ map. map ≡ pairs) }
     {
-        PairMap {
+        let pairs = pairs.into_vec();
+        let places = index_of(alloc, &pairs)?;
+        Ok(PairMap {
             alloc,
-            pairs: Vec::new(alloc),
-            places: BTreeMap::new(alloc),
-        }
+            pairs,
+            places,
+        })
     }
 
     /// The bytes under a name, lent. Takes no memory.
@@ -81,6 +87,30 @@ impl PairMap {
         take_out(&mut self.pairs, &mut self.places, name);
     }
 
+    /// Copies of the first `limit` pairs whose name begins with `prefix` and is greater than `after`.
+    pub(crate) fn page(
+        &self,
+        prefix: &str,
+        after: &str,
+        limit: u32,
+    ) -> Result<Vec<Pair>, AllocError>
+        ensures { IfOk result (λ page. page.items ≡ page_of prefix.now after.now limit self.now) }
+    {
+        if prefix <= after {
+            let start = String::from_str(self.alloc, after)?;
+            let range = self
+                .places
+                .range((Bound::Excluded(&start), Bound::Unbounded));
+            read_page(self.alloc, &self.pairs, range, prefix, limit)
+        } else {
+            let start = String::from_str(self.alloc, prefix)?;
+            let range = self
+                .places
+                .range((Bound::Included(&start), Bound::Unbounded));
+            read_page(self.alloc, &self.pairs, range, prefix, limit)
+        }
+    }
+
     /// The pairs, lent, in the order in which they came. Takes no memory.
     pub(crate) fn as_slice(&self) -> &[Pair]
         ensures each { All (Contains result.now) self.now }
@@ -89,6 +119,48 @@ impl PairMap {
     {
         self.pairs.as_slice()
     }
+}
+
+/// The place of each name.
+fn index_of(alloc: Global, pairs: &[Pair]) -> Result<BTreeMap<String, usize>, AllocError>
+    requires { IsContents pairs.now }
+    ensures indexed { IfOk result (λ places. IsIndexed pairs.now places.entries) }
+    ensures shows { IfOk result (λ places. indexed pairs.now places.entries ≡ pairs.now) }
+{
+    let mut places = BTreeMap::new(alloc);
+    for (place, pair) in pairs.iter().enumerate() {
+        places.insert(String::from_str(alloc, pair.name.as_str())?, place)?;
+    }
+    Ok(places)
+}
+
+/// Copies of the first `limit` pairs of a part of the index, up to the first name that doesn't begin with
+/// `prefix`.
+fn read_page(
+    alloc: Global,
+    pairs: &[Pair],
+    range: Range<'_, String, usize>,
+    prefix: &str,
+    limit: u32,
+) -> Result<Vec<Pair>, AllocError>
+    requires { All (λ e. Stands pairs.now (string_bytes e.0) e.1) range }
+    ensures { IfOk result (λ page. page.items ≡ take limit (take_while (λ p. starts_with nat_eq p.name prefix.now) (indexed pairs.now range.entry))) }
+{
+    let mut page = Vec::new(alloc);
+    for (name, place) in range {
+        if page.len() == limit as usize || !begins_with(name.as_str(), prefix) {
+            break;
+        }
+        page.push(copy_pair(alloc, &pairs[*place])?)?;
+    }
+    Ok(page)
+}
+
+/// Whether a name begins with a prefix.
+fn begins_with(name: &str, prefix: &str) -> bool
+    ensures { result ≡ starts_with nat_eq name.now prefix.now }
+{
+    name.as_bytes().starts_with(prefix.as_bytes())
 }
 
 /// Adds a pair with a new name at the end, and its place to the index. Where memory runs out nothing changes.

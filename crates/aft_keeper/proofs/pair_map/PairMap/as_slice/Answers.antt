@@ -1,4 +1,3 @@
-use Rattle.std.proofs.Common.{sym, ◌∙◌}
 use Rattle.aft_keeper.proofs.Indexed.{All-contained, All-shown}
 use Rattle.aft_keeper.proofs.pair_map.PairMap.as_slice.Goals as goal
 

@@ -1,4 +1,4 @@
-use Rattle.std.proofs.Common.{◌≡◌, ◌<◌, ◌∙◌, sym, ap, arith, Option, Some, None, length}
+use Rattle.std.proofs.Common.{◌≡◌, sym, arith, Some, None}
 use Rattle.aft_keeper.specs.PairMap.{place_of, pair_at}
 use Rattle.aft_keeper.proofs.Indexed.{bytes_at-indexed, pair_at-read}
 use Rattle.aft_keeper.proofs.pair_map.PairMap.get.Goals as goal
