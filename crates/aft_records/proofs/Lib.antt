@@ -2,3 +2,8 @@ pub mod Steps
 pub mod Texts
 pub mod KeyChecks
 pub mod Splits
+pub mod Parts
+pub mod LimitTests
+pub mod Found
+pub mod Again
+pub mod Written

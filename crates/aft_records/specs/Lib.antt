@@ -5,3 +5,6 @@ pub mod Rows
 pub mod Place
 pub mod Reading
 pub mod Names
+pub mod Stored
+pub mod Records
+pub mod Superseded
