@@ -7,3 +7,6 @@ pub mod LimitTests
 pub mod Found
 pub mod Again
 pub mod Written
+pub mod Digits
+pub mod NameFound
+pub mod NameWritten
