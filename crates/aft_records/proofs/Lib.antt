@@ -2,3 +2,11 @@ pub mod Steps
 pub mod Texts
 pub mod KeyChecks
 pub mod Splits
+pub mod Parts
+pub mod LimitTests
+pub mod Found
+pub mod Again
+pub mod Written
+pub mod Digits
+pub mod NameFound
+pub mod NameWritten

@@ -1,7 +1,7 @@
 -- Where a text is split.
 use Rattle.std.proofs.Common.{◌≡◌, ◌≢◌, ℕ, suc, ◌<◌, Bool, true, false, cond, eqb, List, [], ◌∷◌, ◌++◌, length, get_or, Option, Some, None, refl, sym, ap, arith}
 use Rattle.std.proofs.lemmas.Bool.{eq-eqb, ne_eqb}
-use Rattle.aft_records.specs.Names.{split_once, ◌>>=◌}
+use Rattle.aft_records.specs.NameReading.{split_once, ◌>>=◌}
 
 -- none of the bytes is this one
 abbrev pub Lacks : List ℕ → ℕ → Type 0
@@ -24,3 +24,8 @@ pub split_once-none : (c : ℕ) (xs : List ℕ) → Lacks xs c → split_once c 
 unfolding split_once
 split_once-none c [] none = refl
 split_once-none c (x ∷ xs) none = rw (Lacks-head x xs c none, split_once-none c xs (Lacks-tail x xs c none)) refl
+
+-- the value of a step that gave one
+pub some_of : {A B : Type 0} (o : Option A) (f : A → Option B) (y : B) → (o >>= f) ≡ Some y → (x : A) × (o ≡ Some x) × (f x ≡ Some y)
+some_of (Some x) f y e = (x, refl, e)
+some_of None f y e = absurd cc

@@ -5,3 +5,7 @@ pub mod Rows
 pub mod Place
 pub mod Reading
 pub mod Names
+pub mod NameReading
+pub mod Stored
+pub mod Records
+pub mod Superseded

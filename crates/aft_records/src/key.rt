@@ -17,7 +17,7 @@ use std::alloc::{AllocError, Global};
 use std::cmp::Ordering;
 use std::marker::Model;
 
-/// The fewest bytes of a key are 1, and the most these.
+/// The most bytes of a key.
 const MAX_KEY_BYTES: usize = 64;
 
 /// What a value stands under: 1 to 64 bytes, each 33 to 126. Keys are ordered by their bytes.
@@ -41,7 +41,7 @@ impl Model for Key {
 fn are_key_bytes(bytes: &[u8]) -> bool
     ensures { result ≡ list_all is_key_byte bytes.now }
 {
-    bytes.iter().all(|b| 33 <= *b && *b <= 126)
+    bytes.iter().all(|b| matches!(b, b'!'..=b'~'))
 }
 
 /// Whether these bytes are a key's.

@@ -7,6 +7,7 @@
 mod fault;
 mod key;
 mod keys;
+mod laws;
 mod name;
 mod reading;
 mod stored;
@@ -19,5 +20,9 @@ mod tests;
 pub use fault::{FieldFault, NameFault, RecordFault};
 pub use key::Key;
 pub use keys::Keys;
+pub use laws::{
+    name_of_written, no_name_begins_another, no_spelling_begins_another, reading_by_time,
+    reading_of_written,
+};
 pub use name::Name;
 pub use stored::{Commit, Marker, Version};

@@ -4,7 +4,9 @@ ghost use Rattle.std.specs.Prelude.{◌≡◌, ◌<◌, ◌++◌, string_bytes, 
 ghost use Rattle.hex.specs.Hex.{encode_lower};
 ghost use Rattle.std.specs.Prelude.{option_map};
 ghost use Rattle.std.specs.List.{list_any};
-ghost use Rattle.aft_records.specs.Names.{id_digits, name_text, GivesName, split_once, is_upper, decoded, key_of, time_of, uuid_of, id_of, version_name, commit_name, retired_name, kind_name, name_of};
+ghost use Rattle.aft_records.specs.Names.{id_digits, name_text};
+ghost use Rattle.aft_records.specs.NameReading.{GivesName, split_once, is_upper, decoded, key_of, time_of, uuid_of, id_of, version_name, commit_name, retired_name, kind_name, name_of};
+ghost use Rattle.aft_records.specs.Stored.{IsName};
 
 use crate::fault::NameFault;
 use crate::key::{Key, is_key};
@@ -98,7 +100,7 @@ fn split(text: &str, separator: char) -> Result<(&str, &str), NameFault>
 fn has_upper(text: &str) -> bool
     ensures { result ≡ list_any is_upper text.now }
 {
-    text.as_bytes().iter().any(|b| 65 <= *b && *b <= 90)
+    text.as_bytes().iter().any(|b| matches!(b, b'A'..=b'Z'))
 }
 
 /// A UUID by its thirty-two digits.
@@ -112,7 +114,7 @@ fn uuid_from(digits: &str) -> Result<Uuid, NameFault>
 }
 
 /// A time by its sixteen digits.
-#[tactic(auto, unfolding(crate::specs::Names::time_of))]
+#[tactic(auto, unfolding(crate::specs::NameReading::time_of))]
 fn time_from(digits: &str) -> Result<u64, NameFault>
     ensures { GivesName (λ time. time) result (time_of digits.now) }
 {
@@ -127,7 +129,7 @@ fn time_from(digits: &str) -> Result<u64, NameFault>
 }
 
 /// An id by its digits.
-#[tactic(auto, unfolding(crate::specs::Names::id_of))]
+#[tactic(auto, unfolding(crate::specs::NameReading::id_of))]
 fn id_from(text: &str) -> Result<TxnId, NameFault>
     ensures { GivesName (λ id. id) result (id_of text.now) }
 {
@@ -138,7 +140,7 @@ fn id_from(text: &str) -> Result<TxnId, NameFault>
 }
 
 /// A key by its digits.
-#[tactic(auto, unfolding(crate::specs::Names::key_of))]
+#[tactic(auto, unfolding(crate::specs::NameReading::key_of))]
 fn key_from(alloc: Global, digits: &str) -> Result<Key, NameFault>
     ensures { GivesName (λ key. key) result (key_of digits.now) }
 {
@@ -155,7 +157,7 @@ fn key_from(alloc: Global, digits: &str) -> Result<Key, NameFault>
 }
 
 /// A version's name, behind its first slash.
-#[tactic(auto, unfolding(crate::specs::Names::version_name))]
+#[tactic(auto, unfolding(crate::specs::NameReading::version_name))]
 fn version_from(alloc: Global, text: &str) -> Result<Name, NameFault>
     ensures { GivesName (λ name. name) result (version_name text.now) }
 {
@@ -166,7 +168,7 @@ fn version_from(alloc: Global, text: &str) -> Result<Name, NameFault>
 }
 
 /// A record's name, behind its slash.
-#[tactic(auto, unfolding(crate::specs::Names::commit_name))]
+#[tactic(auto, unfolding(crate::specs::NameReading::commit_name))]
 fn commit_from(text: &str) -> Result<Name, NameFault>
     ensures { GivesName (λ name. name) result (commit_name text.now) }
 {
@@ -175,7 +177,7 @@ fn commit_from(text: &str) -> Result<Name, NameFault>
 }
 
 /// A marker's name, behind its slash.
-#[tactic(auto, unfolding(crate::specs::Names::retired_name))]
+#[tactic(auto, unfolding(crate::specs::NameReading::retired_name))]
 fn retired_from(text: &str) -> Result<Name, NameFault>
     ensures { GivesName (λ name. name) result (retired_name text.now) }
 {
@@ -184,7 +186,7 @@ fn retired_from(text: &str) -> Result<Name, NameFault>
 }
 
 /// A name of this kind, by what stands behind its first slash.
-#[tactic(auto, unfolding(crate::specs::Names::kind_name))]
+#[tactic(auto, unfolding(crate::specs::NameReading::kind_name))]
 fn kind_from(alloc: Global, kind: &str, rest: &str) -> Result<Name, NameFault>
     ensures { GivesName (λ name. name) result (kind_name kind.now rest.now) }
 {
@@ -201,7 +203,7 @@ fn kind_from(alloc: Global, kind: &str, rest: &str) -> Result<Name, NameFault>
 }
 
 /// The name that a text is.
-#[tactic(auto, unfolding(crate::specs::Names::name_of))]
+#[tactic(auto, unfolding(crate::specs::NameReading::name_of))]
 fn name_from(alloc: Global, text: &str) -> Result<Name, NameFault>
     ensures { GivesName (λ name. name) result (name_of text.now) }
 {
@@ -210,4 +212,19 @@ fn name_from(alloc: Global, text: &str) -> Result<Name, NameFault>
     }
     let (kind, rest) = split(text, '/')?;
     kind_from(alloc, kind, rest)
+}
+
+impl Name {
+    /// The name that a text spells. `BadName` comes exactly where the text spells none: upper case digits,
+    /// a key or a time out of its limits, and bytes after the end are refused too.
+    pub fn read(alloc: Global, text: &str) -> Result<Name, NameFault>
+        // What is read is spelled so, and within the limits.
+        ensures found { IfOk result (λ name. IsName name × (text.now ≡ name_text name)) }
+        // What is spelled so, and within the limits, is read, unless memory runs out.
+        ensures only { (name : Name) → IsName name → text.now ≡ name_text name → GivesName (λ read. read) result (Some name) }
+        // Which texts are refused.
+        ensures exact { GivesName (λ read. read) result (name_of text.now) }
+    {
+        name_from(alloc, text)
+    }
 }

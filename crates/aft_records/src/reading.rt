@@ -3,6 +3,9 @@
 ghost use Rattle.std.specs.Prelude.{◌≡◌, None, IfOk, IsTrue};
 ghost use Rattle.aft_records.specs.Gives.{Gives};
 ghost use Rattle.aft_records.specs.Limits.{is_time, ascend};
+ghost use Rattle.aft_records.specs.Rows.{version_row, marker_row};
+ghost use Rattle.aft_records.specs.Records.{IsRecordOf};
+ghost use Rattle.aft_records.specs.Stored.{IsCommit, IsVersion, IsMarker};
 ghost use Rattle.aft_records.specs.Reading.{texts_after, texts_at, checked_time, commit_at, ended_commit, commit_behind, version_at, ended_version, ended_id, commit_of, version_of, full_of, done_of, marker_of};
 
 use crate::fault::{FieldFault, RecordFault};
@@ -133,29 +136,23 @@ fn version_cells<'a>(walk: Walk<'a>) -> Result<(VersionCells<'a>, Walk<'a>), Rec
     Ok((VersionCells { id, key, value }, walk))
 }
 
-impl Commit {
-    /// The commit whose record these bytes are, or the first fault: in the layout from left to right,
-    /// and then `BadTime`, `BadKeys` or `BadKey`.
-    #[tactic(auto, unfolding(crate::specs::Reading::commit_of))]
-    pub fn decode(alloc: Global, bytes: &[u8]) -> Result<Commit, RecordFault>
-        ensures exact { Gives (λ commit. commit) result (commit_of bytes.now) }
-    {
-        let walk = Walk::start(bytes).tag(*b"AC1")?;
-        commit_behind(alloc, walk)
-    }
+/// A commit's record, whole.
+#[tactic(auto, unfolding(crate::specs::Reading::commit_of))]
+fn commit_from(alloc: Global, bytes: &[u8]) -> Result<Commit, RecordFault>
+    ensures { Gives (λ read. read) result (commit_of bytes.now) }
+{
+    let walk = Walk::start(bytes).tag(*b"AC1")?;
+    commit_behind(alloc, walk)
 }
 
-impl Version {
-    /// The version that these bytes are, or the first fault: in the layout from left to right, and then
-    /// `BadTime`, `BadKey` with index 0, or `LongValue`.
-    #[tactic(auto, unfolding(crate::specs::Reading::version_of))]
-    pub fn decode(alloc: Global, bytes: &[u8]) -> Result<Version, RecordFault>
-        ensures exact { Gives (λ version. version) result (version_of bytes.now) }
-    {
-        let walk = Walk::start(bytes).tag(*b"AV1")?;
-        let (cells, walk) = version_cells(walk)?;
-        ended_version(alloc, cells.id, cells.key, cells.value, walk)
-    }
+/// A version, whole.
+#[tactic(auto, unfolding(crate::specs::Reading::version_of))]
+fn version_from(alloc: Global, bytes: &[u8]) -> Result<Version, RecordFault>
+    ensures { Gives (λ read. read) result (version_of bytes.now) }
+{
+    let walk = Walk::start(bytes).tag(*b"AV1")?;
+    let (cells, walk) = version_cells(walk)?;
+    ended_version(alloc, cells.id, cells.key, cells.value, walk)
 }
 
 /// A short marker's id, behind its tag.
@@ -178,20 +175,62 @@ fn full_behind(alloc: Global, walk: Walk<'_>) -> Result<Marker, RecordFault>
     Ok(Marker::Full(commit))
 }
 
-impl Marker {
-    /// The marker that these bytes are, or the first fault: `Tag` where neither tag stands there, then
-    /// in the layout from left to right, and then `BadTime`, `BadKeys` or `BadKey`.
-    #[tactic(auto, unfolding(crate::specs::Reading::marker_of))]
-    pub fn decode(alloc: Global, bytes: &[u8]) -> Result<Marker, RecordFault>
-        ensures exact { Gives (λ marker. marker) result (marker_of bytes.now) }
+/// A marker, whole.
+#[tactic(auto, unfolding(crate::specs::Reading::marker_of))]
+fn marker_from(alloc: Global, bytes: &[u8]) -> Result<Marker, RecordFault>
+    ensures { Gives (λ read. read) result (marker_of bytes.now) }
+{
+    let (tag, walk) = Walk::start(bytes).array::<3>()?;
+    if tag == *b"AF1" {
+        return full_behind(alloc, walk);
+    }
+    if tag == *b"AD1" {
+        return done_behind(walk);
+    }
+    Err(RecordFault::Field(FieldFault::Tag))
+}
+
+impl Commit {
+    /// The commit whose record these bytes are, or the first fault: in the layout from left to right,
+    /// and then `BadTime`, `BadKeys` or `BadKey`.
+    pub fn decode(alloc: Global, bytes: &[u8]) -> Result<Commit, RecordFault>
+        // What is read is spelled so, and within the limits.
+        ensures found { IfOk result (λ commit. IsCommit commit × IsRecordOf bytes.now commit) }
+        // What is spelled so, and within the limits, is read, unless memory runs out.
+        ensures only { (commit : Commit) → IsCommit commit → IsRecordOf bytes.now commit → Gives (λ read. read) result (Ok commit) }
+        // Which fault it is.
+        ensures exact { Gives (λ read. read) result (commit_of bytes.now) }
     {
-        let (tag, walk) = Walk::start(bytes).array::<3>()?;
-        if tag == *b"AF1" {
-            return full_behind(alloc, walk);
-        }
-        if tag == *b"AD1" {
-            return done_behind(walk);
-        }
-        Err(RecordFault::Field(FieldFault::Tag))
+        commit_from(alloc, bytes)
+    }
+}
+
+impl Version {
+    /// The version that these bytes are, or the first fault: in the layout from left to right, and then
+    /// `BadTime`, `BadKey` with index 0, or `LongValue`.
+    pub fn decode(alloc: Global, bytes: &[u8]) -> Result<Version, RecordFault>
+        // What is read is spelled so, and within the limits.
+        ensures found { IfOk result (λ version. IsVersion version × (bytes.now ≡ version_row version)) }
+        // What is spelled so, and within the limits, is read, unless memory runs out.
+        ensures only { (version : Version) → IsVersion version → bytes.now ≡ version_row version → Gives (λ read. read) result (Ok version) }
+        // Which fault it is.
+        ensures exact { Gives (λ read. read) result (version_of bytes.now) }
+    {
+        version_from(alloc, bytes)
+    }
+}
+
+impl Marker {
+    /// The marker that these bytes are, or the first fault: in the layout from left to right, with `Tag`
+    /// where neither tag stands there, and then `BadTime`, `BadKeys` or `BadKey`.
+    pub fn decode(alloc: Global, bytes: &[u8]) -> Result<Marker, RecordFault>
+        // What is read is spelled so, and within the limits.
+        ensures found { IfOk result (λ marker. IsMarker marker × (bytes.now ≡ marker_row marker)) }
+        // What is spelled so, and within the limits, is read, unless memory runs out.
+        ensures only { (marker : Marker) → IsMarker marker → bytes.now ≡ marker_row marker → Gives (λ read. read) result (Ok marker) }
+        // Which fault it is.
+        ensures exact { Gives (λ read. read) result (marker_of bytes.now) }
+    {
+        marker_from(alloc, bytes)
     }
 }

@@ -3,6 +3,7 @@
 ghost use Rattle.std.specs.Prelude.{◌≡◌, ◌<◌, ◌≤◌, ◌^◌, ◌++◌, List, [], ◌∷◌, length, OnOk, IfOk};
 ghost use Rattle.std.specs.List.{flat_map};
 ghost use Rattle.aft_records.specs.Cells.{U64, U128, Texts, counted, cell};
+ghost use Rattle.aft_records.specs.Records.{IsRecordOf};
 ghost use Rattle.aft_records.specs.Rows.{commit_cells, commit_row, version_row, marker_row};
 
 use crate::keys::Keys;
@@ -53,7 +54,8 @@ fn commit_behind(alloc: Global, tag: &[u8], commit: &Commit) -> Result<Bytes, Me
 impl Commit {
     /// The record of the commit, as stored.
     pub fn encode(&self, alloc: Global) -> Result<Bytes, Memory>
-        ensures { IfOk result (λ bytes. bytes ≡ commit_row self.now) }
+        ensures spelling { IfOk result (λ bytes. bytes ≡ commit_row self.now) }
+        ensures is_record { IfOk result (λ bytes. IsRecordOf bytes self.now) }
     {
         commit_behind(alloc, b"AC1", self)
     }

@@ -1,6 +1,6 @@
 use Rattle.std.proofs.Common.{◌≡◌, ◌∙◌, ◌++◌, ◌∷◌, ap, Some}
 use Rattle.std.proofs.lemmas.Str.Pattern.{split_parts}
-use Rattle.aft_records.specs.Names.{split_once}
+use Rattle.aft_records.specs.NameReading.{split_once}
 use Rattle.aft_records.proofs.Splits.{split_once-at, split_once-none}
 use Rattle.aft_records.proofs.name.split.Goals as goal
 

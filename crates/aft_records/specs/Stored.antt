@@ -1,0 +1,71 @@
+-- Which ids, commits, versions, markers and names can be written, and which keep the limits besides.
+use Rattle.std.specs.Prelude.{ℕ, ◌<◌, ◌≤◌, ◌^◌, length, Result, Ok, Err, if◌then◌else◌}
+use Rattle.aft_id.specs.declared.txn_id.TxnId.{TxnId}
+use Rattle.aft_id.specs.TxnId.{IsUuid}
+use Rattle.aft_records.specs.declared.fault.RecordFault.{RecordFault}
+use Rattle.aft_records.specs.declared.fault.RecordFault.TheVariants.{BadTime}
+use Rattle.aft_records.specs.declared.stored.Commit.{Commit}
+use Rattle.aft_records.specs.declared.stored.Version.{Version}
+use Rattle.aft_records.specs.declared.stored.Marker.{Marker}
+use Rattle.aft_records.specs.declared.stored.Marker.TheVariants.{Full, Done}
+use Rattle.aft_records.specs.declared.name.Name.{Name}
+use Rattle.aft_records.specs.declared.name.Name.TheVariants.{VersionOf, CommitOf, RetiredOf}
+use Rattle.aft_records.specs.Limits.{is_time, IsTime, IsKey, AreKeys}
+
+-- an id of any time
+pub record IsWritableId (id : TxnId) : Type 0 where
+  pub time : id.time < 2 ^ 64
+  pub uuid : IsUuid id.uuid
+
+-- a commit of any time
+pub record IsWritableCommit (c : Commit) : Type 0 where
+  pub id : IsWritableId c.id
+  pub keys : AreKeys c.keys
+
+-- a version of any time
+pub record IsWritableVersion (v : Version) : Type 0 where
+  pub id : IsWritableId v.id
+  pub key : IsKey v.key
+  pub value : length v.value ≤ 4096
+
+-- a marker of any time
+abbrev pub IsWritableMarker : Marker → Type 0
+IsWritableMarker (Full c) = IsWritableCommit c
+IsWritableMarker (Done id) = IsWritableId id
+
+-- the time of a marker
+abbrev pub marker_time : Marker → ℕ
+marker_time (Full c) = c.id.time
+marker_time (Done id) = id.time
+
+-- a value whose time keeps the limit, and otherwise the fault
+abbrev pub if_timely : {A : Type 0} → ℕ → A → Result A RecordFault
+if_timely time value = if is_time time then Ok value else Err BadTime
+
+-- a commit within the limits
+abbrev pub IsCommit : Commit → Type 0
+IsCommit c = IsWritableCommit c × IsTime c.id.time
+
+-- a version within the limits
+abbrev pub IsVersion : Version → Type 0
+IsVersion v = IsWritableVersion v × IsTime v.id.time
+
+-- a marker within the limits
+abbrev pub IsMarker : Marker → Type 0
+IsMarker m = IsWritableMarker m × IsTime (marker_time m)
+
+-- a name of any time
+abbrev pub IsWritableName : Name → Type 0
+IsWritableName (VersionOf key id) = IsKey key × IsWritableId id
+IsWritableName (CommitOf uuid) = IsUuid uuid
+IsWritableName (RetiredOf uuid) = IsUuid uuid
+
+-- the time of a name keeps its limit, if it has one
+abbrev pub IsTimely : Name → Type 0
+IsTimely (VersionOf key id) = IsTime id.time
+IsTimely (CommitOf uuid) = Unit {0}
+IsTimely (RetiredOf uuid) = Unit {0}
+
+-- a name within the limits
+abbrev pub IsName : Name → Type 0
+IsName name = IsWritableName name × IsTimely name
