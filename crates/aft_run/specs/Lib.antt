@@ -1,0 +1,4 @@
+pub mod Words
+pub mod Start
+pub mod Built
+pub mod Status
