@@ -1,12 +1,11 @@
 -- What is read is spelled so, and keeps the limits.
-use Rattle.std.proofs.Common.{◌≡◌, ℕ, suc, ◌+◌, ◌^◌, ◌<◌, ◌≤◌, Bool, true, false, cond, eqb, List, [], ◌∷◌, ◌++◌, length, None, Result, Ok, Err, refl, sym, ap, subst, ◌∙◌, append_assoc, arith, inl, inr, ◌⊎◌}
-use Rattle.std.specs.Prelude.{nat_eq, nat_le, nat_lt, IfOk, IsTrue}
+use Rattle.std.proofs.Common.{◌≡◌, ℕ, ◌≤◌, Bool, true, false, cond, eqb, List, [], ◌++◌, length, None, Result, Ok, Err, refl, sym, ap, subst, ◌∙◌, append_assoc, inl, inr, ◌⊎◌}
+use Rattle.std.specs.Prelude.{nat_eq, IfOk}
 use Rattle.std.specs.List.{flat_map, list_all}
 use Rattle.std.specs.Int.{w32, w64, to_be_bytes}
 use Rattle.std.specs.Cmp.Lexicographic.{pointwise, same_text}
 use Rattle.std.proofs.lemmas.Bool.{eqb-true, leb-true}
 use Rattle.std.proofs.lemmas.List.{append-nil, nil_from_length}
-use Rattle.aft_id.specs.declared.txn_id.TxnId.{TxnId}
 use Rattle.aft_id.specs.TxnId.{IsUuid}
 use Rattle.aft_records.specs.declared.fault.FieldFault.TheVariants.{Tag, Spare}
 use Rattle.aft_records.specs.declared.fault.RecordFault.{RecordFault}
@@ -18,10 +17,10 @@ use Rattle.aft_records.specs.declared.stored.Marker.TheVariants.{Full, Done}
 use Rattle.aft_records.specs.Cells.{cell, counted}
 use Rattle.aft_records.specs.Rows.{version_tag, commit_tag, full_tag, done_tag, commit_cells, commit_row, version_row, marker_row}
 use Rattle.aft_records.specs.Gives.{◌>>=◌, Gives}
-use Rattle.aft_records.specs.Limits.{is_time, IsTime, is_key_byte, is_key, IsKey, is_key_count, AreKeys, ascend, is_value_length}
+use Rattle.aft_records.specs.Limits.{is_time, is_key, is_key_count, ascend, is_value_length}
 use Rattle.aft_records.specs.Place.{Place, start}
 use Rattle.aft_records.specs.Reading.{part_at, id_at, bytes_at, text_at, texts_at, texts_after, u32_at, tag_at, end_at, checked_time, checked_keys, checked_set, checked_key, checked_value, commit_at, ended_commit, commit_behind, version_at, ended_version, ended_id, commit_of, version_of, full_of, done_of, marker_of}
-use Rattle.aft_records.specs.Stored.{IsWritableId, IsWritableCommit, IsWritableVersion, IsCommit, IsVersion, IsMarker}
+use Rattle.aft_records.specs.Stored.{IsCommit, IsVersion, IsMarker}
 use Rattle.aft_records.proofs.Steps.{bind_ok, test_ok, ok_is}
 use Rattle.aft_records.proofs.LimitTests.{time_below, key_limits, set_limits}
 use Rattle.aft_records.proofs.KeyChecks.{all_keys}

@@ -1,9 +1,8 @@
 -- Going over keys one after the other.
-use Rattle.std.proofs.Common.{◌≡◌, ℕ, ◌+◌, ◌<◌, ◌≤◌, Bool, true, false, cond, ◌&&◌, List, [], ◌∷◌, ◌++◌, length, get_or, drop, Result, Ok, Err, refl, sym, ap, ◌∙◌, drop-cons, add-one, arith}
+use Rattle.std.proofs.Common.{◌≡◌, ℕ, ◌+◌, ◌<◌, ◌≤◌, true, cond, List, [], ◌∷◌, length, get_or, drop, Ok, Err, refl, drop-cons, add-one}
 use Rattle.std.specs.List.{list_all}
 use Rattle.std.proofs.lemmas.Bool.{and_parts}
 use Rattle.std.proofs.lemmas.List.{drop_all}
-use Rattle.aft_records.specs.declared.fault.RecordFault.{RecordFault}
 use Rattle.aft_records.specs.declared.fault.RecordFault.TheVariants.{BadKey}
 use Rattle.aft_records.specs.Limits.{is_key}
 use Rattle.aft_records.specs.Reading.{checked_keys}

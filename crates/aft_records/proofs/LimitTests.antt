@@ -1,8 +1,8 @@
 -- The tests of the limits, and what they tell.
-use Rattle.std.proofs.Common.{◌≡◌, ℕ, ◌^◌, ◌<◌, ◌≤◌, Bool, true, ◌&&◌, leb, ltb, List, length, refl, arith}
+use Rattle.std.proofs.Common.{◌≡◌, ℕ, ◌^◌, ◌<◌, Bool, true, ◌&&◌, leb, ltb, List, length, refl, arith}
 use Rattle.std.specs.List.{list_all}
 use Rattle.std.proofs.lemmas.Bool.{and_parts, leb-true, ltb-true, le-leb}
-use Rattle.aft_records.specs.Limits.{is_time, IsTime, is_key_byte, is_key, IsKey, is_key_count, AreKeys, ascend}
+use Rattle.aft_records.specs.Limits.{is_time, is_key_byte, is_key, IsKey, is_key_count, AreKeys, ascend}
 
 both : (a b : Bool) → a ≡ true → b ≡ true → (a && b) ≡ true
 both a b p q = rw (p, q) refl

@@ -1,5 +1,5 @@
 -- A text that is read as a name is its spelling.
-use Rattle.std.proofs.Common.{◌≡◌, ℕ, suc, ◌+◌, ◌^◌, ◌<◌, ◌≤◌, Bool, true, false, cond, eqb, nat_eq, List, [], ◌∷◌, ◌++◌, length, codes, get_or, Option, Some, None, Result, Ok, Err, refl, sym, ap, subst, ◌∙◌, append_assoc, arith, inl, inr, ◌⊎◌}
+use Rattle.std.proofs.Common.{◌≡◌, ℕ, ◌<◌, Bool, true, false, cond, eqb, nat_eq, List, [], ◌∷◌, ◌++◌, codes, Option, Some, None, Result, Ok, Err, refl, sym, ap, subst, ◌∙◌, inl, inr, ◌⊎◌}
 use Rattle.std.specs.Prelude.{IfOk, ◌||◌}
 use Rattle.std.specs.List.{list_any}
 use Rattle.std.specs.Int.{w64, to_be_bytes, from_be_bytes}
@@ -22,7 +22,7 @@ use Rattle.aft_records.specs.NameReading.{◌>>=◌, GivesName, is_upper, split_
 use Rattle.aft_records.specs.Stored.{IsWritableId, IsName}
 use Rattle.aft_records.proofs.LimitTests.{time_below, key_limits}
 use Rattle.aft_records.proofs.Splits.{some_of}
-use Rattle.aft_records.proofs.Digits.{Spells, decoded_spells, sized_spells}
+use Rattle.aft_records.proofs.Digits.{decoded_spells, sized_spells}
 
 abbrev found : {A : Type 0} → A → Option A
 found x = Some x
@@ -49,9 +49,9 @@ split_is c (b ∷ bytes) p e =
           let made : List ℕ × List ℕ = (b ∷ a.0.0, a.0.1) in
           subst (λ (q : List ℕ × List ℕ). b ∷ bytes ≡ q.0 ++ (c ∷ q.1)) (some_is made p a.2) (ap (λ (x : List ℕ). b ∷ x) others)
     ] where
-  way : {A : Type 0} (b : Bool) (x y z : Option A) → cond b x y ≡ z → ((b ≡ true) × (x ≡ z)) ⊎ ((b ≡ false) × (y ≡ z))
-  way true x y z e = inl (refl, e)
-  way false x y z e = inr (refl, e)
+      way : {A : Type 0} (b : Bool) (x y z : Option A) → cond b x y ≡ z → ((b ≡ true) × (x ≡ z)) ⊎ ((b ≡ false) × (y ≡ z))
+      way true x y z e = inl (refl, e)
+      way false x y z e = inr (refl, e)
 
 -- both parts of a text with no upper case letter have none
 abbrev IsLow : List ℕ → Type 0
@@ -155,9 +155,9 @@ kind_found kind rest name low e =
                 rw (same_text kind (codes "r") (sym g.0)) (retired_found rest name low g.1)
           ]
     ] where
-  way : (b : Bool) (x y : Option Name) (z : Name) → cond b x y ≡ Some z → ((b ≡ true) × (x ≡ Some z)) ⊎ (y ≡ Some z)
-  way true x y z e = inl (refl, e)
-  way false x y z e = inr e
+      way : (b : Bool) (x y : Option Name) (z : Name) → cond b x y ≡ Some z → ((b ≡ true) × (x ≡ Some z)) ⊎ (y ≡ Some z)
+      way true x y z e = inl (refl, e)
+      way false x y z e = inr e
 
 name_found : (text : List ℕ) (name : Name) → name_of text ≡ Some name → IsName name × (text ≡ name_text name)
 unfolding name_of
@@ -168,9 +168,9 @@ name_found text name e =
     let lows = low_parts a.0.0 47 a.0.1 (subst IsLow parts g.0) in
     let k = kind_found a.0.0 a.0.1 name lows.1 a.2 in
     (k.0, parts ∙ k.1) where
-  low_some : {A : Type 0} (b : Bool) (x : Option A) (y : A) → cond b None x ≡ Some y → (b ≡ false) × (x ≡ Some y)
-  low_some true x y e = absurd cc
-  low_some false x y e = (refl, e)
+      low_some : {A : Type 0} (b : Bool) (x : Option A) (y : A) → cond b None x ≡ Some y → (b ≡ false) × (x ≡ Some y)
+      low_some true x y e = absurd cc
+      low_some false x y e = (refl, e)
 
 -- what a call gave is the name that the text spells
 pub is_found : (text : List ℕ) (r : Result Name NameFault) → GivesName (λ n. n) r (name_of text) → IfOk r (λ name. IsName name × (text ≡ name_text name))

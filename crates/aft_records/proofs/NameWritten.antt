@@ -1,22 +1,21 @@
 -- The text of a name is read as that name, and no name's text begins another's.
-use Rattle.std.proofs.Common.{◌≡◌, ◌≢◌, ℕ, zero, suc, ◌+◌, ◌*◌, ◌/◌, ◌%◌, ◌^◌, ◌<◌, ◌≤◌, Bool, true, false, cond, eqb, leb, nat_eq, List, [], ◌∷◌, ◌++◌, length, codes, get_or, take, drop, Option, Some, None, Result, Ok, Err, refl, sym, ap, subst, ◌∙◌, append_assoc, arith, inl, inr}
-use Rattle.std.specs.Prelude.{◌||◌}
+use Rattle.std.proofs.Common.{◌≡◌, ℕ, zero, suc, ◌/◌, ◌%◌, ◌^◌, ◌<◌, true, false, eqb, leb, List, [], ◌∷◌, ◌++◌, length, codes, get_or, take, drop, Option, Some, refl, sym, ap, ◌∙◌, append_assoc, arith, inl, inr}
 use Rattle.std.specs.List.{list_any, list_all}
 use Rattle.std.specs.Int.{w64, to_be_bytes, from_be_bytes}
 use Rattle.std.proofs.lemmas.Bool.{and_parts, leb-true, cases_lt, or_from, eqb-false}
-use Rattle.std.proofs.lemmas.List.{take_at, drop_at, get_or_past, length-append}
+use Rattle.std.proofs.lemmas.List.{take_at, drop_at, get_or_past}
 use Rattle.std.proofs.lemmas.List.Elements.{All-get_or}
 use Rattle.std.proofs.lemmas.List.Folds.{list_any-append}
 use Rattle.std.proofs.lemmas.Nat.{from_be_bytes-to_be_bytes_8}
-use Rattle.hex.specs.Hex.{IsBytes, lower_digits, encode_lower, decode_of, decode_sized}
+use Rattle.hex.specs.Hex.{IsBytes, lower_digits, encode_lower, decode_of}
 use Rattle.hex.proofs.HexLemmas.{length-encode_with, decode_of-encode_lower, decode_sized-encode_lower, decode_of-same}
 use Rattle.aft_id.specs.declared.txn_id.TxnId.{TxnId}
 use Rattle.aft_id.specs.TxnId.{IsUuid}
 use Rattle.aft_records.specs.declared.name.Name.{Name}
 use Rattle.aft_records.specs.declared.name.Name.TheVariants.{VersionOf, CommitOf, RetiredOf}
-use Rattle.aft_records.specs.Limits.{is_time, IsTime, is_key_byte, is_key, IsKey}
+use Rattle.aft_records.specs.Limits.{IsTime, is_key_byte, IsKey}
 use Rattle.aft_records.specs.Names.{id_digits, name_text}
-use Rattle.aft_records.specs.NameReading.{◌>>=◌, is_upper, split_once, decoded, key_of, time_of, uuid_of, id_of, version_name, commit_name, retired_name, kind_name, name_of}
+use Rattle.aft_records.specs.NameReading.{is_upper, split_once, decoded, key_of, time_of, uuid_of, id_of, version_name, commit_name, retired_name, kind_name, name_of}
 use Rattle.aft_records.specs.Stored.{IsWritableId, IsWritableName, IsName}
 use Rattle.aft_records.proofs.LimitTests.{key_passes}
 use Rattle.aft_records.proofs.Splits.{split_once-at}
@@ -138,7 +137,7 @@ times_apart s t x y ls lt e =
 ids_apart : (i j : TxnId) (x y : List ℕ) → IsWritableId i → IsWritableId j → id_digits i ++ x ≡ id_digits j ++ y → (i ≡ j) × (x ≡ y)
 ids_apart i j x y wi wj e =
     let whole : encode_lower (to_be_bytes w64 i.time) ++ (45 ∷ (encode_lower i.uuid ++ x)) ≡ encode_lower (to_be_bytes w64 j.time) ++ (45 ∷ (encode_lower j.uuid ++ y)) =
-        sym (append_assoc (encode_lower (to_be_bytes w64 i.time)) (45 ∷ encode_lower i.uuid) x) ∙ e ∙ append_assoc (encode_lower (to_be_bytes w64 j.time)) (45 ∷ encode_lower j.uuid) y in
+    sym (append_assoc (encode_lower (to_be_bytes w64 i.time)) (45 ∷ encode_lower i.uuid) x) ∙ e ∙ append_assoc (encode_lower (to_be_bytes w64 j.time)) (45 ∷ encode_lower j.uuid) y in
     let t = times_apart i.time j.time (45 ∷ (encode_lower i.uuid ++ x)) (45 ∷ (encode_lower j.uuid ++ y)) wi.time wj.time whole in
     let u = uuids_apart i.uuid j.uuid x y wi.uuid wj.uuid (ap (λ (l : List ℕ). drop 1 l) t.1) in
     (ap (λ (time : ℕ). record { time = time; uuid = i.uuid }) t.0 ∙ ap (λ (uuid : List ℕ). record { time = j.time; uuid = uuid }) u.0, u.1)
@@ -160,7 +159,7 @@ versions_apart : (k l : List ℕ) (i j : TxnId) (x y : List ℕ) → IsKey k →
     → (encode_lower k ++ (47 ∷ id_digits i)) ++ x ≡ (encode_lower l ++ (47 ∷ id_digits j)) ++ y → (VersionOf k i ≡ VersionOf l j) × (x ≡ y)
 versions_apart k l i j x y ik il wi wj e =
     let whole : encode_lower k ++ (47 ∷ (id_digits i ++ x)) ≡ encode_lower l ++ (47 ∷ (id_digits j ++ y)) =
-        sym (append_assoc (encode_lower k) (47 ∷ id_digits i) x) ∙ e ∙ append_assoc (encode_lower l) (47 ∷ id_digits j) y in
+    sym (append_assoc (encode_lower k) (47 ∷ id_digits i) x) ∙ e ∙ append_assoc (encode_lower l) (47 ∷ id_digits j) y in
     let p = keys_apart k l (id_digits i ++ x) (id_digits j ++ y) ik il whole in
     let q = ids_apart i j x y wi wj p.1 in
     (ap (λ (key : List ℕ). VersionOf key i) p.0 ∙ ap (λ (id : TxnId). VersionOf l id) q.0, q.1)

@@ -1,15 +1,13 @@
 -- A part that is read is the part that was written, and what was written is read again.
-use Rattle.std.proofs.Common.{◌≡◌, ℕ, zero, suc, ◌+◌, ◌*◌, ◌^◌, ◌<◌, ◌≤◌, Bool, true, false, cond, ltb, nat_eq, List, [], ◌∷◌, ◌++◌, length, get_or, take, drop, Option, Some, None, Result, Ok, Err, refl, sym, ap, subst, ◌∙◌, append_assoc, arith, inl, inr}
-use Rattle.std.specs.List.{list_all, flat_map}
-use Rattle.std.specs.Int.{Width, w32, w64, from_be_bytes, to_be_bytes}
-use Rattle.std.specs.Str.{is_utf8, IsAscii}
+use Rattle.std.proofs.Common.{◌≡◌, ℕ, zero, suc, ◌+◌, ◌<◌, ◌≤◌, Bool, true, false, cond, ltb, nat_eq, List, [], ◌∷◌, ◌++◌, length, get_or, take, drop, Option, Some, None, Ok, Err, refl, sym, ap, subst, ◌∙◌, append_assoc, arith, inl, inr}
+use Rattle.std.specs.List.{flat_map}
+use Rattle.std.specs.Int.{w32, w64, from_be_bytes, to_be_bytes}
+use Rattle.std.specs.Str.{is_utf8}
 use Rattle.std.specs.Cmp.Lexicographic.{pointwise, same_text}
-use Rattle.std.proofs.lemmas.Bool.{cases_lt, ltb-false, le-ltb, and_parts}
-use Rattle.std.proofs.lemmas.List.{take_at, drop_at, take-append-drop, length-append, length-take, get_or-drop, get_or-take, get_or_past}
+use Rattle.std.proofs.lemmas.Bool.{cases_lt, ltb-false}
+use Rattle.std.proofs.lemmas.List.{take-append-drop, length-take, get_or-drop, get_or-take, get_or_past}
 use Rattle.std.proofs.lemmas.List.Elements.{All-from_get_or}
-use Rattle.std.proofs.lemmas.Nat.{be_bytes_4, be_bytes_8, from_be_bytes-to_be_bytes_4, from_be_bytes-to_be_bytes_8}
-use Rattle.std.proofs.lemmas.Str.{IsUtf8-from_ascii, is_utf8-from_IsUtf8}
-use Rattle.std.proofs.lemmas.Str.Ascii.{IsAscii-nil, IsAscii-cons}
+use Rattle.std.proofs.lemmas.Nat.{be_bytes_4, be_bytes_8}
 use Rattle.aft_id.specs.declared.txn_id.TxnId.{TxnId}
 use Rattle.aft_id.specs.TxnId.{IsUuid}
 use Rattle.aft_records.specs.declared.fault.FieldFault.TheVariants.{Short, Tag, NotUtf8, Unsorted}
@@ -17,10 +15,9 @@ use Rattle.aft_records.specs.declared.fault.RecordFault.{RecordFault}
 use Rattle.aft_records.specs.declared.fault.RecordFault.TheVariants.{Field}
 use Rattle.aft_records.specs.Cells.{counted}
 use Rattle.aft_records.specs.Gives.{◌>>=◌}
-use Rattle.aft_records.specs.Limits.{is_key_byte, is_key, follows, ascend_after}
+use Rattle.aft_records.specs.Limits.{follows}
 use Rattle.aft_records.specs.Place.{Place}
 use Rattle.aft_records.specs.Reading.{part_at, u64_at, u32_at, id_at, bytes_at, text_at, texts_after, texts_at, tag_at}
-use Rattle.aft_records.specs.Stored.{IsWritableId}
 use Rattle.aft_records.proofs.Steps.{bind_ok, test_ok, ok_is}
 
 -- each is a byte

@@ -1,5 +1,5 @@
 -- What was written has a reading exactly where its time keeps the limit, and no spelling begins another.
-use Rattle.std.proofs.Common.{◌≡◌, ℕ, ◌+◌, ◌^◌, ◌<◌, ◌≤◌, Bool, true, false, cond, nat_eq, List, [], ◌∷◌, ◌++◌, length, get_or, Result, Ok, Err, refl, sym, ap, subst, ◌∙◌, append_assoc, arith}
+use Rattle.std.proofs.Common.{◌≡◌, ℕ, Bool, true, false, cond, List, [], ◌++◌, length, get_or, Result, Ok, Err, refl, sym, ap, ◌∙◌, append_assoc, arith}
 use Rattle.std.specs.List.{flat_map}
 use Rattle.std.specs.Int.{w32, w64, to_be_bytes}
 use Rattle.std.specs.Cmp.Lexicographic.{bytes_decides}
@@ -15,9 +15,9 @@ use Rattle.aft_records.specs.declared.stored.Marker.TheVariants.{Full, Done}
 use Rattle.aft_records.specs.Cells.{cell, counted}
 use Rattle.aft_records.specs.Rows.{version_tag, commit_tag, full_tag, done_tag, commit_cells, commit_row, version_row, marker_row}
 use Rattle.aft_records.specs.Gives.{◌>>=◌}
-use Rattle.aft_records.specs.Limits.{is_time, IsTime, is_key, is_value_length, AreKeys}
+use Rattle.aft_records.specs.Limits.{is_time, IsTime, AreKeys}
 use Rattle.aft_records.specs.Place.{Place, start}
-use Rattle.aft_records.specs.Reading.{part_at, id_at, bytes_at, text_at, texts_at, tag_at, checked_time, checked_key, checked_value, checked_keys, checked_set, commit_at, ended_commit, commit_behind, version_at, ended_version, ended_id, commit_of, version_of, full_of, done_of, marker_of}
+use Rattle.aft_records.specs.Reading.{id_at, tag_at, checked_time, checked_set, commit_at, ended_commit, commit_behind, version_at, ended_version, ended_id, commit_of, version_of, full_of, done_of, marker_of}
 use Rattle.aft_records.specs.Stored.{IsWritableId, IsWritableCommit, IsWritableVersion, IsWritableMarker, marker_time, if_timely}
 use Rattle.aft_records.proofs.Steps.{ok_is}
 use Rattle.aft_records.proofs.KeyChecks.{checked_keys-all}

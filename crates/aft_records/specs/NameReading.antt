@@ -13,7 +13,6 @@ use Rattle.aft_records.specs.declared.name.Name.TheVariants.{VersionOf, CommitOf
 use Rattle.aft_records.specs.Limits.{is_time, is_key}
 
 infixl 10 ◌>>=◌
-
 -- the second step, if the first gave a value
 abbrev pub ◌>>=◌ : {A B : Type 0} → Option A → (A → Option B) → Option B
 (Some x) >>= f = f x

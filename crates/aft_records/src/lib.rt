@@ -11,11 +11,10 @@ mod laws;
 mod name;
 mod reading;
 mod stored;
-mod walk;
-mod writing;
-
 #[cfg(test)]
 mod tests;
+mod walk;
+mod writing;
 
 pub use fault::{FieldFault, NameFault, RecordFault};
 pub use key::Key;

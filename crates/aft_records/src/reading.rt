@@ -23,7 +23,12 @@ const TIME_END: u64 = 1 << 48;
 const MAX_VALUE_BYTES: usize = 4096;
 
 /// So many texts of this field.
-fn so_many_texts<'a>(alloc: Global, field: u32, count: u32, walk: Walk<'a>) -> Result<(Vec<Bytes>, Walk<'a>), RecordFault>
+fn so_many_texts<'a>(
+    alloc: Global,
+    field: u32,
+    count: u32,
+    walk: Walk<'a>,
+) -> Result<(Vec<Bytes>, Walk<'a>), RecordFault>
     ensures { Gives (λ x. (x.0.items, x.1)) result (texts_after field count None walk.entry) }
 {
     let mut texts = Vec::new(alloc);
@@ -43,7 +48,11 @@ fn so_many_texts<'a>(alloc: Global, field: u32, count: u32, walk: Walk<'a>) -> R
 
 /// Texts of this field behind their number.
 #[tactic(auto, unfolding(crate::specs::Reading::texts_at))]
-fn texts<'a>(alloc: Global, field: u32, walk: Walk<'a>) -> Result<(Vec<Bytes>, Walk<'a>), RecordFault>
+fn texts<'a>(
+    alloc: Global,
+    field: u32,
+    walk: Walk<'a>,
+) -> Result<(Vec<Bytes>, Walk<'a>), RecordFault>
     ensures texts { Gives (λ x. (x.0.items, x.1)) result (texts_at field walk.entry) }
     ensures ascending { IfOk result (λ x. IsTrue (ascend x.0.items)) }
 {
@@ -70,7 +79,10 @@ fn check_time(time: u64) -> Result<(), RecordFault>
 
 /// The cells of a commit.
 #[tactic(auto, unfolding(crate::specs::Reading::commit_at))]
-fn commit_cells<'a>(alloc: Global, walk: Walk<'a>) -> Result<((TxnId, Vec<Bytes>), Walk<'a>), RecordFault>
+fn commit_cells<'a>(
+    alloc: Global,
+    walk: Walk<'a>,
+) -> Result<((TxnId, Vec<Bytes>), Walk<'a>), RecordFault>
     ensures cells { Gives (λ x. (record { id = x.0.0; keys = x.0.1.items }, x.1)) result (commit_at walk.entry) }
     ensures ascending { IfOk result (λ x. IsTrue (ascend x.0.1.items)) }
 {
@@ -81,7 +93,12 @@ fn commit_cells<'a>(alloc: Global, walk: Walk<'a>) -> Result<((TxnId, Vec<Bytes>
 
 /// A commit that ends here, within its limits.
 #[tactic(auto, unfolding(crate::specs::Reading::ended_commit))]
-fn ended_commit(alloc: Global, id: TxnId, keys: Vec<Bytes>, walk: Walk<'_>) -> Result<Commit, RecordFault>
+fn ended_commit(
+    alloc: Global,
+    id: TxnId,
+    keys: Vec<Bytes>,
+    walk: Walk<'_>,
+) -> Result<Commit, RecordFault>
     requires { IsTrue (ascend keys.items) }
     ensures { Gives (λ x. x) result (ended_commit (record { id = id; keys = keys.items }, walk.entry)) }
 {
@@ -102,7 +119,13 @@ fn commit_behind(alloc: Global, walk: Walk<'_>) -> Result<Commit, RecordFault>
 
 /// The key and the value of a version, behind its id, and the end, within their limits.
 #[tactic(auto, unfolding(crate::specs::Reading::ended_version))]
-fn ended_version(alloc: Global, id: TxnId, key: &[u8], value: &[u8], walk: Walk<'_>) -> Result<Version, RecordFault>
+fn ended_version(
+    alloc: Global,
+    id: TxnId,
+    key: &[u8],
+    value: &[u8],
+    walk: Walk<'_>,
+) -> Result<Version, RecordFault>
     ensures { Gives (λ x. x) result (ended_version (record { id = id; key = key.now; value = value.now }, walk.entry)) }
 {
     walk.end()?;

@@ -5,17 +5,15 @@ use std::process::Abort;
 use std::test::Fail;
 use uuid::Uuid;
 
-/// The bytes of hexadecimal digits.
-fn unhex(alloc: Global, digits: &str) -> Result<Vec<u8>, Fail> {
-    Ok(hex::decode(alloc, digits)?)
-}
+/// A commit's tag and the id 1000-u1, in digits.
+const HEAD: &str = "41433100000000000003e800000000000000000000000000000001";
 
-const VERSION: &str =
-    "41563100000000000003e8000000000000000000000000000000010000000178000000026869";
-const COMMIT: &str = "41433100000000000003e800000000000000000000000000000001000000010000000178";
-const COMMIT_XY: &str =
-    "41433100000000000003e8000000000000000000000000000000010000000200000001780000000179";
-const DONE: &str = "41443100000000000003e800000000000000000000000000000001";
+/// The bytes of the digits of two parts.
+fn unhex(alloc: Global, head: &str, rest: &str) -> Result<Vec<u8>, Fail> {
+    let mut bytes = hex::decode(alloc, head)?;
+    bytes.extend_from_slice(&hex::decode(alloc, rest)?)?;
+    Ok(bytes)
+}
 
 fn an_id() -> TxnId {
     TxnId {
@@ -33,58 +31,196 @@ fn commit_of(alloc: Global, names: &[&[u8]]) -> Result<Commit, Fail> {
     Ok(Commit { id: an_id(), keys })
 }
 
+fn is_commit(rt: &impl Abort, alloc: Global, commit: &Commit, rest: &str) -> Result<(), Fail> {
+    let bytes = unhex(alloc, HEAD, rest)?;
+    let written = commit.encode(alloc)?;
+    assert!(rt; written.as_slice() == bytes.as_slice());
+    let read = Commit::decode(alloc, &bytes)?;
+    assert!(rt; read == *commit);
+    Ok(())
+}
+
 #[test]
-fn vectors(rt: HostRuntime) -> Result<(), Fail> {
+fn commits(rt: HostRuntime) -> Result<(), Fail> {
     let alloc = rt.alloc();
-    let version = Version {
-        id: an_id(),
-        key: Key::new(alloc, b"x")?,
-        value: Bytes::from_vec(Vec::from_slice(alloc, b"hi")?),
-    };
-    assert_eq!(rt; version.encode(alloc)?.as_slice(), unhex(alloc, VERSION)?.as_slice());
-    let read = Version::decode(alloc, &unhex(alloc, VERSION)?)?;
-    assert_eq!(rt; read.id, an_id());
-    assert_eq!(rt; read.key.bytes(), b"x".as_slice());
-    assert_eq!(rt; read.value.as_slice(), b"hi".as_slice());
-
     let one = commit_of(alloc, &[b"x"])?;
-    assert_eq!(rt; one.encode(alloc)?.as_slice(), unhex(alloc, COMMIT)?.as_slice());
-    assert_eq!(rt; Commit::decode(alloc, &unhex(alloc, COMMIT)?)?, one);
-
+    is_commit(&rt, alloc, &one, "000000010000000178")?;
     let two = commit_of(alloc, &[b"x", b"y"])?;
-    assert_eq!(rt; two.encode(alloc)?.as_slice(), unhex(alloc, COMMIT_XY)?.as_slice());
-    assert_eq!(rt; Commit::decode(alloc, &unhex(alloc, COMMIT_XY)?)?, two);
+    is_commit(&rt, alloc, &two, "0000000200000001780000000179")
+}
 
+#[test]
+fn versions(rt: HostRuntime) -> Result<(), Fail> {
+    let alloc = rt.alloc();
+    let id = "41563100000000000003e800000000000000000000000000000001";
+    let bytes = unhex(alloc, id, "0000000178000000026869")?;
+    let version = Version::decode(alloc, &bytes)?;
+    assert!(rt; version.id == an_id());
+    assert!(rt; version.key.bytes() == b"x".as_slice());
+    assert!(rt; version.value.as_slice() == b"hi".as_slice());
+    Ok(())
+}
+
+#[test]
+fn markers(rt: HostRuntime) -> Result<(), Fail> {
+    let alloc = rt.alloc();
+    let bytes = unhex(
+        alloc,
+        "41443100000000000003e8",
+        "00000000000000000000000000000001",
+    )?;
     let done = Marker::Done(an_id());
-    assert_eq!(rt; done.encode(alloc)?.as_slice(), unhex(alloc, DONE)?.as_slice());
-    assert_eq!(rt; Marker::decode(alloc, &unhex(alloc, DONE)?)?, done);
-
-    let full = Marker::Full(one);
-    let bytes = full.encode(alloc)?;
-    assert_eq!(rt; Marker::decode(alloc, bytes.as_slice())?, full);
+    let written = done.encode(alloc)?;
+    assert!(rt; written.as_slice() == bytes.as_slice());
+    let read = Marker::decode(alloc, &bytes)?;
+    assert!(rt; read == done);
     Ok(())
 }
 
-fn short(at: u64) -> RecordFault {
-    RecordFault::Field(FieldFault::Short { at })
-}
-
-/// The commit record with these bytes at this offset has this fault.
-fn refuses(rt: &impl Abort, alloc: Global, digits: &str, fault: RecordFault) -> Result<(), Fail> {
-    assert_eq!(rt; Commit::decode(alloc, &unhex(alloc, digits)?), Err(fault));
-    Ok(())
+fn refuses(rt: &impl Abort, bytes: &[u8], alloc: Global, fault: FieldFault) {
+    let refused = Commit::decode(alloc, bytes).err();
+    assert!(rt; refused == Some(RecordFault::Field(fault)));
 }
 
 #[test]
 fn prefixes(rt: HostRuntime) -> Result<(), Fail> {
     let alloc = rt.alloc();
-    let bytes = unhex(alloc, COMMIT)?;
-    let table = [(0, 2, 0), (3, 10, 3), (11, 26, 11), (27, 30, 27), (31, 34, 31), (35, 35, 35)];
-    for (first, last, at) in table {
-        for n in first..=last {
-            let cut = bytes.iter().copied().take(n).collect::<Vec<u8>>(alloc)?;
-            assert_eq!(rt; Commit::decode(alloc, &cut), Err(short(at)), "{n} bytes");
-        }
+    let bytes = unhex(alloc, HEAD, "000000010000000178")?;
+    for n in 0..36 {
+        let at = match n {
+            0..=2 => 0,
+            3..=10 => 3,
+            11..=26 => 11,
+            27..=30 => 27,
+            31..=34 => 31,
+            _ => 35,
+        };
+        assert!(rt; n <= bytes.len());
+        refuses(&rt, &bytes[..n], alloc, FieldFault::Short { at });
     }
     Ok(())
+}
+
+fn has_fault(
+    rt: &impl Abort,
+    alloc: Global,
+    head: &str,
+    rest: &str,
+    fault: RecordFault,
+) -> Result<(), Fail> {
+    let bytes = unhex(alloc, head, rest)?;
+    let refused = Commit::decode(alloc, &bytes).err();
+    assert!(rt; refused == Some(fault), "{head}{rest}");
+    Ok(())
+}
+
+#[test]
+fn layout(rt: HostRuntime) -> Result<(), Fail> {
+    let table = [
+        ("0000000100000001ff", FieldFault::NotUtf8 { field: 2 }),
+        (
+            "0000000200000001780000000178",
+            FieldFault::Unsorted { field: 2 },
+        ),
+        (
+            "0000000200000001790000000178",
+            FieldFault::Unsorted { field: 2 },
+        ),
+        ("00000002000000017800000001", FieldFault::Short { at: 40 }),
+        (
+            "000000020000000178000000017900",
+            FieldFault::Spare { at: 41 },
+        ),
+    ];
+    for (rest, fault) in table {
+        has_fault(&rt, rt.alloc(), HEAD, rest, RecordFault::Field(fault))?;
+    }
+    Ok(())
+}
+
+#[test]
+fn limits(rt: HostRuntime) -> Result<(), Fail> {
+    let zero = "414331000000000000000000000000000000000000000000000001";
+    let late = "414331000100000000000000000000000000000000000000000001";
+    let table = [
+        (zero, "000000010000000178", RecordFault::BadTime),
+        (late, "000000010000000178", RecordFault::BadTime),
+        (HEAD, "00000000", RecordFault::BadKeys),
+        (HEAD, "000000010000000120", RecordFault::BadKey { index: 0 }),
+    ];
+    for (head, rest, fault) in table {
+        has_fault(&rt, rt.alloc(), head, rest, fault)?;
+    }
+    Ok(())
+}
+
+#[test]
+fn other_tag(rt: HostRuntime) -> Result<(), Fail> {
+    let alloc = rt.alloc();
+    let record = unhex(alloc, HEAD, "000000010000000178")?;
+    let tag = RecordFault::Field(FieldFault::Tag);
+    assert!(rt; Marker::decode(alloc, &record).err() == Some(tag));
+    let empty = RecordFault::Field(FieldFault::Short { at: 0 });
+    assert!(rt; Marker::decode(alloc, &[]).err() == Some(empty));
+    Ok(())
+}
+
+#[test]
+fn long_value(rt: HostRuntime) -> Result<(), Fail> {
+    let alloc = rt.alloc();
+    let id = "41563100000000000003e800000000000000000000000000000001";
+    let mut bytes = unhex(alloc, id, "000000017800001001")?;
+    bytes.extend_from_slice(&[7; 4097])?;
+    let refused = Version::decode(alloc, &bytes).err();
+    assert!(rt; refused == Some(RecordFault::LongValue));
+    Ok(())
+}
+
+fn is_name(rt: &impl Abort, alloc: Global, name: Name, text: &str) -> Result<(), Fail> {
+    let written = name.write(alloc)?;
+    assert!(rt; written.as_str() == text);
+    let read = Name::read(alloc, text)?;
+    assert!(rt; read == name);
+    Ok(())
+}
+
+#[test]
+fn names(rt: HostRuntime) -> Result<(), Fail> {
+    let alloc = rt.alloc();
+    let uuid = Uuid::from_u128(1);
+    let key = Key::new(alloc, b"x")?;
+    let version = Name::VersionOf { key, id: an_id() };
+    is_name(
+        &rt,
+        alloc,
+        version,
+        "v/78/00000000000003e8-00000000000000000000000000000001",
+    )?;
+    is_name(
+        &rt,
+        alloc,
+        Name::CommitOf { uuid },
+        "c/00000000000000000000000000000001",
+    )?;
+    is_name(
+        &rt,
+        alloc,
+        Name::RetiredOf { uuid },
+        "r/00000000000000000000000000000001",
+    )
+}
+
+#[test]
+fn no_names(rt: HostRuntime) {
+    let table = [
+        "c/zz",
+        "v/78/00000000000003E8-00000000000000000000000000000001",
+        "v/78/0000000000000000-00000000000000000000000000000001",
+        "v/20/00000000000003e8-00000000000000000000000000000001",
+        "c/0000000000000000000000000000000A",
+    ];
+    for text in table {
+        let refused = Name::read(rt.alloc(), text).err();
+        assert!(rt; refused == Some(NameFault::BadName), "{text}");
+    }
 }

@@ -1,4 +1,4 @@
-use Rattle.std.proofs.Common.{◌≡◌, ◌<◌, ◌≤◌, length, take, drop, IsTrue}
+use Rattle.std.proofs.Common.{◌≡◌, take, drop, IsTrue}
 use Rattle.std.specs.List.{list_all}
 use Rattle.std.specs.Option.{option_copied}
 use Rattle.aft_records.specs.Limits.{is_key, ascend_after, ascend}

@@ -1,4 +1,4 @@
-use Rattle.std.proofs.Common.{◌≡◌, ◌∙◌, cond, false, sym, ap}
+use Rattle.std.proofs.Common.{◌≡◌, ◌∙◌, false, sym, ap}
 use Rattle.aft_records.specs.Limits.{is_key}
 use Rattle.aft_records.proofs.KeyChecks.{checked_keys-at, checked_keys-end}
 use Rattle.aft_records.proofs.keys.check_keys.Goals as goal

@@ -1,5 +1,4 @@
 use Rattle.std.proofs.Common.{◌≡◌, ◌∙◌, ap, sym, rules}
-use Rattle.aft_records.specs.Limits.{AreKeys}
 use Rattle.aft_records.specs.Reading.{checked_keys}
 use Rattle.aft_records.proofs.KeyChecks.{all_keys}
 use Rattle.aft_records.proofs.keys.Keys.of.Goals as goal
