@@ -5,8 +5,7 @@ use Rattle.std.specs.Prelude.{nat_eq}
 use Rattle.std.specs.Ordering.{is_lt, nat_cmp}
 use Rattle.std.specs.Cmp.Lexicographic.{slice_cmp}
 use Rattle.std.specs.Str.{bytes_eq}
-use Rattle.std.specs.Coded.{×_prop, Unit-prop}
-use Rattle.std.proofs.Props.{props}
+use Rattle.std.specs.Coded.{Coded-set, coded_bool, ×_prop, Π_prop, Unit-prop}
 use Rattle.aft_keeper.specs.declared.keeper.Pair.{Pair}
 
 -- names are ordered byte by byte
@@ -25,12 +24,12 @@ IsContents pairs = Ascends pairs × All (λ p. p.name ≢ []) pairs
 
 -- what a store may hold is so in one way
 pub IsContents-prop : (pairs : List Pair) → IsProp (IsContents pairs)
-IsContents-prop pairs = ×_prop (Ascends-prop pairs) (hlevel props)
+IsContents-prop pairs = ×_prop (Ascends-prop pairs) (Π_prop (λ k. Π_prop (λ d. Π_prop (λ within. Π_prop (λ unnamed. λ x y. absurd x)))))
   where
     Ascends-prop : (pairs : List Pair) → IsProp (Ascends pairs)
     Ascends-prop [] = Unit-prop
     Ascends-prop (p ∷ []) = Unit-prop
-    Ascends-prop (p ∷ q ∷ pairs) = ×_prop (hlevel props) (Ascends-prop (q ∷ pairs))
+    Ascends-prop (p ∷ q ∷ pairs) = ×_prop (Coded-set coded_bool _ _) (Ascends-prop (q ∷ pairs))
 
 -- the bytes under a name
 abbrev pub bytes_at : List ℕ → List Pair → Option (List ℕ)

@@ -1,7 +1,6 @@
 -- Which files a source in memory holds, and which of its calls fail.
-use Rattle.std.specs.Prelude.{ℕ, ◌+◌, ◌-◌, ◌^◌, List, map, min, Result, Ok, Err}
-use Rattle.std.specs.List.{IsDistinct}
-use Rattle.std.specs.Str.{bytes_eq}
+use Rattle.std.specs.Prelude.{ℕ, ◌≡◌, ◌+◌, ◌-◌, ◌^◌, List, [], ◌∷◌, None, min, Result, Ok, Err}
+use Rattle.aft_keeper.specs.Contents.{bytes_at}
 use Rattle.aft_keeper.specs.Failures.{after_success, after_failure}
 use Rattle.aft_keeper.specs.declared.keeper.Pair.{Pair}
 use Rattle.aft_keeper.specs.declared.failures.Failures.{Failures}
@@ -9,9 +8,10 @@ use Rattle.aft_keeper.specs.declared.mem_source.MemSource.{MemSource}
 use Rattle.aft_keeper.specs.declared.source.SourceFault.{SourceFault}
 use Rattle.aft_keeper.specs.declared.source.SourceFault.TheVariants.{Absent, Failed, Memory}
 
--- no two pairs have one name
+-- no pair has the name of a later one
 abbrev pub HasDistinctNames : List Pair → Type 0
-HasDistinctNames pairs = IsDistinct bytes_eq (map (λ p. p.name) pairs)
+HasDistinctNames [] = Unit {0}
+HasDistinctNames (p ∷ pairs) = (bytes_at p.name pairs ≡ None) × HasDistinctNames pairs
 
 -- the files that it holds
 abbrev pub files_of : MemSource → List Pair

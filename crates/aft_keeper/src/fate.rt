@@ -12,7 +12,7 @@ pub struct Fail {
 }
 
 /// How a call goes.
-#[derive(Clone, Copy, Debug, PartialEq, Eq)]
+#[derive(Clone, Copy, Debug)]
 pub(crate) enum Fate {
     /// It succeeds.
     Works,

@@ -15,6 +15,8 @@ mod mem_source;
 mod pair_map;
 mod sink;
 mod source;
+#[cfg(test)]
+mod tests;
 
 pub use clock::{Clock, FixedClock};
 pub use fate::Fail;

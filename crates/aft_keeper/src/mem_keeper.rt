@@ -1,7 +1,6 @@
 //! A keeper in memory.
 
-ghost use Rattle.std.specs.Prelude as prelude;
-ghost use Rattle.std.specs.Prelude.{◌≡◌, ◌≢◌, ◌<◌, ◌++◌, ◌∷◌, ℕ, [], length, Option, None, Some, All, Contains, IfOk, IfSome, IsErrOf, OnOk, OnErr, IsOkUnless, vec_len, vec_capacity};
+ghost use Rattle.std.specs.Prelude.{◌≡◌, ◌≢◌, ◌++◌, ◌∷◌, [], length, Option, None, Some, All, Contains, IfOk, IsErrOf, OnOk, OnErr, IsOkUnless};
 ghost use Rattle.aft_keeper.specs.Cause.{HasCause};
 ghost use Rattle.aft_keeper.specs.Contents.{IsContents, IsContents-prop, IsPage, bytes_at, page_of, with_pair, without};
 ghost use Rattle.aft_keeper.specs.Fate.{AnswersAs};

@@ -1,7 +1,6 @@
 //! A sink in memory.
 
-ghost use Rattle.std.specs.Prelude as prelude;
-ghost use Rattle.std.specs.Prelude.{◌≡◌, ◌↔◌, ℕ, [], Some, IsTrue, IsErrOf};
+ghost use Rattle.std.specs.Prelude.{◌≡◌, ◌↔◌, [], Some, IsTrue, IsErrOf};
 ghost use Rattle.aft_keeper.specs.Cause.{HasCause};
 ghost use Rattle.aft_keeper.specs.Taken.{Takes};
 

@@ -1,6 +1,6 @@
 //! A source in memory.
 
-ghost use Rattle.std.specs.Prelude.{◌≡◌, ◌↔◌, ℕ, [], Option, None, Some, not, IsTrue, IfOk, IsErrOf, find, option_copied};
+ghost use Rattle.std.specs.Prelude.{◌≡◌, ◌↔◌, [], Option, None, Some, not, IsTrue, IfOk, IsErrOf, find, option_copied};
 ghost use Rattle.std.specs.Str.{bytes_eq};
 ghost use Rattle.aft_keeper.specs.Cause.{HasCause};
 ghost use Rattle.aft_keeper.specs.Contents.{bytes_at};
