@@ -1,5 +1,5 @@
 -- What a keeper in memory holds, its log, and how its calls are told to go.
-use Rattle.std.specs.Prelude.{ℕ, ◌≡◌, ◌+◌, Bool, true, false, List, [], length, count_by, Option, None, Some, min}
+use Rattle.std.specs.Prelude.{ℕ, ◌≡◌, ◌+◌, Bool, true, false, List, [], length, count_by, Option, None, Some, min, unwrap_or}
 use Rattle.aft_keeper.specs.Fate.{fate_at}
 use Rattle.aft_keeper.specs.declared.keeper.Pair.{Pair}
 use Rattle.aft_keeper.specs.declared.keeper.KeeperEntry.{KeeperEntry}
@@ -10,9 +10,9 @@ use Rattle.aft_keeper.specs.declared.fate.Fail.{Fail}
 use Rattle.aft_keeper.specs.declared.fate.Fate.{Fate}
 use Rattle.aft_keeper.specs.declared.mem_keeper.MemKeeper.{MemKeeper}
 
--- the pairs that it holds, ascending by name
+-- the pairs that it holds, ascending by name: those that it was given, until they are indexed
 abbrev pub contents_of : MemKeeper → List Pair
-contents_of keeper = keeper.pairs
+contents_of keeper = unwrap_or keeper.given keeper.pairs
 
 -- each call that it answered, oldest first
 abbrev pub log_of : MemKeeper → List KeeperEntry

@@ -1,6 +1,6 @@
 //! A keeper in memory.
 
-ghost use Rattle.std.specs.Prelude.{◌≡◌, ◌≢◌, ◌++◌, ◌∷◌, [], length, Option, None, Some, All, Contains, IfOk, IsErrOf, OnOk, OnErr, IsOkUnless};
+ghost use Rattle.std.specs.Prelude.{◌≡◌, ◌≢◌, ◌++◌, ◌∷◌, [], length, Option, None, Some, All, Contains, IfOk, IsErrOf, OnOk, OnErr, IsOkUnless, unwrap_or};
 ghost use Rattle.aft_keeper.specs.Cause.{HasCause};
 ghost use Rattle.aft_keeper.specs.Contents.{IsContents, IsContents-prop, IsPage, bytes_at, page_of, with_pair, without};
 ghost use Rattle.aft_keeper.specs.Fate.{AnswersAs};
@@ -10,44 +10,48 @@ use crate::copies::{copy_bytes, copy_pairs, copy_text, push_within};
 use crate::fate::{Fail, Fate};
 use crate::keeper::{Keeper, KeeperAnswer, KeeperCall, KeeperEntry, KeeperFault, Pair};
 use crate::pair_map::PairMap;
-use aft_id::{Bytes, List, Memory};
-use std::alloc::Global;
+use aft_id::{Bytes, List};
+use std::alloc::{AllocError, Global};
 
 /// A store in memory, which tells its contents and its log, and whose calls fail where it is told.
 ///
 /// A call has the number of the entries of the log and one. A call that lacks memory leaves all as it was,
-/// and the next call has its number.
+/// and the next call has its number. The first call builds an index of the names, in which later calls find
+/// a name in logarithmic time.
 #[derive(Debug, Drop)]
 pub struct MemKeeper {
     alloc: Global,
+
+    // The pairs that it was given, until the first call indexes them. From then on `pairs` has them.
+    given: Option<List<Pair>>,
     pairs: PairMap,
     log: Vec<KeeperEntry>,
     fails: List<Fail>,
     stop: Option<u64>,
-    ghost in_order: { IsContents pairs } by { IsContents-prop pairs },
+    ghost in_order: { IsContents (unwrap_or given pairs) } by { IsContents-prop (unwrap_or given pairs) },
 }
 
 impl MemKeeper {
     ghost use Rattle.aft_keeper.specs.MemKeeper.{contents_of, log_of, fails_of, stop_of, fate_of, earlier, entry_of, NeverFails};
 
-    /// A store of these pairs, with an empty log. Its calls of these numbers fail. Takes memory for an index
-    /// of the names alone.
-    pub fn new(alloc: Global, contents: List<Pair>, fails: List<Fail>) -> Result<MemKeeper, Memory>
+    /// A store of these pairs, with an empty log. Its calls of these numbers fail. Takes no memory: the index
+    /// of the names waits for the first call.
+    pub fn new(alloc: Global, contents: List<Pair>, fails: List<Fail>) -> MemKeeper
         requires { IsContents contents }
-        ensures contents { IfOk result (λ keeper. contents_of keeper ≡ contents) }
-        ensures log { IfOk result (λ keeper. log_of keeper ≡ []) }
-        ensures fails { IfOk result (λ keeper. fails_of keeper ≡ fails) }
-        ensures stop { IfOk result (λ keeper. stop_of keeper ≡ None) }
-        ensures never_fails { fails ≡ [] → IfOk result NeverFails }
+        ensures contents { contents_of result ≡ contents }
+        ensures log { log_of result ≡ [] }
+        ensures fails { fails_of result ≡ fails }
+        ensures stop { stop_of result ≡ None }
+        ensures never_fails { fails ≡ [] → NeverFails result }
     {
-        let pairs = PairMap::from_pairs(alloc, contents)?;
-        Ok(MemKeeper {
+        MemKeeper {
             alloc,
-            pairs,
+            given: Some(contents),
+            pairs: PairMap::new(alloc),
             log: Vec::new(alloc),
             fails,
             stop: None,
-        })
+        }
     }
 
     /// From the call of this number on every call fails without effect. An earlier stop stays.
@@ -69,7 +73,10 @@ impl MemKeeper {
         ensures no_others { All (Contains (contents_of self.now)) result.now }
         ensures as_many { length result.now ≡ length (contents_of self.now) }
     {
-        self.pairs.as_slice()
+        match &self.given {
+            Some(given) => given.as_slice(),
+            None => self.pairs.as_slice(),
+        }
     }
 
     /// Each call that it answered, lent, oldest first. Takes no memory.
@@ -88,6 +95,7 @@ impl MemKeeper {
     {
         let MemKeeper {
             alloc,
+            given,
             pairs,
             log: _,
             fails: _,
@@ -95,6 +103,7 @@ impl MemKeeper {
         } = self;
         MemKeeper {
             alloc,
+            given,
             pairs,
             log: Vec::new(alloc),
             fails: List::from_vec(Vec::new(alloc)),
@@ -115,11 +124,35 @@ impl MemKeeper {
         Fate::of(self.fails.as_slice(), self.stop, self.log.len() as u64 + 1)
     }
 
+    /// Indexes the pairs that it was given, unless that is done. Where memory runs out nothing changes.
+    fn index(&mut self) -> Result<(), AllocError>
+        ensures indexed { OnOk result (self.new.given ≡ None) }
+        ensures contents { contents_of self.new ≡ contents_of self.old }
+        ensures log { log_of self.new ≡ log_of self.old }
+        ensures fails { fails_of self.new ≡ fails_of self.old }
+        ensures stop { stop_of self.new ≡ stop_of self.old }
+    {
+        let Some(given) = self.given.take() else {
+            return Ok(());
+        };
+        match PairMap::from_pairs(self.alloc, given) {
+            Ok(pairs) => {
+                self.pairs = pairs;
+                Ok(())
+            }
+            Err(given) => {
+                self.given = Some(given);
+                Err(AllocError)
+            }
+        }
+    }
+
     /// Adds a call and its answer to the log. Where memory runs out nothing changes.
     fn record(&mut self, call: KeeperCall, answer: KeeperAnswer) -> Result<(), KeeperFault>
         ensures ok { OnOk result (log_of self.new ≡ log_of self.old ++ entry_of call answer ∷ []) }
         ensures err { OnErr result (log_of self.new ≡ log_of self.old) }
         ensures memory { IsOkUnless result KeeperFault.Memory }
+        ensures given { self.new.given ≡ self.old.given }
         ensures contents { contents_of self.new ≡ contents_of self.old }
         ensures fails { fails_of self.new ≡ fails_of self.old }
         ensures stop { stop_of self.new ≡ stop_of self.old }
@@ -151,6 +184,7 @@ impl Keeper for MemKeeper {
         ensures stop { stop_of self.new ≡ stop_of self.old }
         ensures never_fails { NeverFails self.old → NeverFails self.new }
     {
+        self.index()?;
         let call = KeeperCall::Get(copy_text(self.alloc, name)?);
         if self.fate().is_failure() {
             self.record(call, KeeperAnswer::Failed)?;
@@ -179,6 +213,7 @@ impl Keeper for MemKeeper {
         ensures stop { stop_of self.new ≡ stop_of self.old }
         ensures never_fails { NeverFails self.old → NeverFails self.new }
     {
+        self.index()?;
         let call = KeeperCall::Put(copy_text(self.alloc, name)?, copy_bytes(self.alloc, bytes)?);
         self.log.reserve(1)?;
         let fate = self.fate();
@@ -202,6 +237,7 @@ impl Keeper for MemKeeper {
         ensures stop { stop_of self.new ≡ stop_of self.old }
         ensures never_fails { NeverFails self.old → NeverFails self.new }
     {
+        self.index()?;
         let call = KeeperCall::Delete(copy_text(self.alloc, name)?);
         let fate = self.fate();
         let (answer, result) = done(fate);
@@ -225,6 +261,7 @@ impl Keeper for MemKeeper {
         ensures stop { stop_of self.new ≡ stop_of self.old }
         ensures never_fails { NeverFails self.old → NeverFails self.new }
     {
+        self.index()?;
         let call = KeeperCall::Scan {
             prefix: copy_text(self.alloc, prefix)?,
             after: copy_text(self.alloc, after)?,

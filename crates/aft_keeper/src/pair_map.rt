@@ -1,6 +1,6 @@
 //! Pairs of name and bytes, found by name.
 
-ghost use Rattle.std.specs.Prelude.{◌≡◌, ◌≢◌, ℕ, [], None, Some, IsSome, List, if◌then◌else◌, length, IfOk, OnOk, OnErr, Contains, All, option_copied, nat_eq, take, take_while};
+ghost use Rattle.std.specs.Prelude.{◌≡◌, ◌≢◌, ℕ, [], None, Some, IsSome, List, if◌then◌else◌, length, IfOk, IfErr, OnOk, OnErr, Contains, All, option_copied, nat_eq, take, take_while};
 ghost use Rattle.std.specs.String.{string_cmp, string_bytes};
 ghost use Rattle.std.specs.List.{starts_with};
 ghost use Rattle.std.specs.Str.{bytes_eq};
@@ -40,18 +40,32 @@ impl Model for PairMap {
 }
 
 impl PairMap {
-    /// These pairs. Takes memory for the index alone.
-    pub(crate) fn from_pairs(alloc: Global, pairs: List<Pair>) -> Result<PairMap, AllocError>
+    /// No pairs. Takes no memory.
+    pub(crate) fn new(alloc: Global) -> PairMap
+        ensures { result ≡ [] }
+    {
+        PairMap {
+            alloc,
+            pairs: Vec::new(alloc),
+            places: BTreeMap::new(alloc),
+        }
+    }
+
+    /// These pairs. Takes memory for the index alone. Where it runs out the pairs come back.
+    pub(crate) fn from_pairs(alloc: Global, pairs: List<Pair>) -> Result<PairMap, List<Pair>>
         requires { IsContents pairs }
-        ensures { IfOk result (λ map. map ≡ pairs) }
+        ensures ok { IfOk result (λ map. map ≡ pairs) }
+        ensures err { IfErr result (λ back. back ≡ pairs) }
     {
         let pairs = pairs.into_vec();
-        let places = index_of(alloc, &pairs)?;
-        Ok(PairMap {
-            alloc,
-            pairs,
-            places,
-        })
+        match index_of(alloc, &pairs) {
+            Ok(places) => Ok(PairMap {
+                alloc,
+                pairs,
+                places,
+            }),
+            Err(AllocError) => Err(List::from_vec(pairs)),
+        }
     }
 
     /// The bytes under a name, lent. Takes no memory.

@@ -20,7 +20,7 @@ fn empty<T>(alloc: Global) -> List<T>
 /// A store with nothing in it, whose calls fail where it is told.
 fn keeper(alloc: Global, fails: &[Fail]) -> Result<MemKeeper, Failure> {
     let fails = List::from_vec(Vec::from_slice(alloc, fails)?);
-    Ok(MemKeeper::new(alloc, empty(alloc), fails)?)
+    Ok(MemKeeper::new(alloc, empty(alloc), fails))
 }
 
 /// Puts each name, with itself as its bytes.
@@ -176,7 +176,7 @@ fn fails_where_told(rt: HostRuntime) -> Result<(), Failure> {
 #[test]
 fn opens_with_contents(rt: HostRuntime) -> Result<(), Failure> {
     let contents = vec![in rt.alloc(); pair(rt.alloc(), "a")?, pair(rt.alloc(), "b")?]?;
-    let mut store = MemKeeper::new(rt.alloc(), List::from_vec(contents), empty(rt.alloc()))?;
+    let mut store = MemKeeper::new(rt.alloc(), List::from_vec(contents), empty(rt.alloc()));
     assert!(rt; shows(&scan(&mut store, "", "", 64)?, &["a", "b"]));
     Ok(())
 }
