@@ -1,3 +1,4 @@
 pub mod Steps
 pub mod Texts
 pub mod KeyChecks
+pub mod Splits

@@ -4,3 +4,4 @@ pub mod Cells
 pub mod Rows
 pub mod Place
 pub mod Reading
+pub mod Names

@@ -2,7 +2,7 @@
 
 ghost use Rattle.std.specs.Prelude.{◌≡◌, None, IfOk, IsTrue};
 ghost use Rattle.aft_records.specs.Gives.{Gives};
-ghost use Rattle.aft_records.specs.Limits.{ascend};
+ghost use Rattle.aft_records.specs.Limits.{is_time, ascend};
 ghost use Rattle.aft_records.specs.Reading.{texts_after, texts_at, checked_time, commit_at, ended_commit, commit_behind, version_at, ended_version, ended_id, commit_of, version_of, full_of, done_of, marker_of};
 
 use crate::fault::{FieldFault, RecordFault};
@@ -49,10 +49,17 @@ fn texts<'a>(alloc: Global, field: u32, walk: Walk<'a>) -> Result<(Vec<Bytes>, W
 }
 
 /// Whether a time is within its limit.
+pub(crate) fn is_time(time: u64) -> bool
+    ensures { result ≡ is_time time }
+{
+    1 <= time && time < TIME_END
+}
+
+/// `BadTime` where a time is not within its limit.
 fn check_time(time: u64) -> Result<(), RecordFault>
     ensures { Gives (λ x. x) result (checked_time time) }
 {
-    if time == 0 || TIME_END <= time {
+    if !is_time(time) {
         return Err(RecordFault::BadTime);
     }
     Ok(())
