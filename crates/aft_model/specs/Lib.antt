@@ -1,1 +1,5 @@
 pub mod ReadSet
+pub mod History
+pub mod Evidence
+pub mod MayHold
+pub mod Honest
