@@ -42,3 +42,71 @@ entry act = record { by = record { client = 1; line = 1 }; act = act }
 -- a call of an incarnation, with its answer
 abbrev pub call : ℕ → ℕ → KeeperCall → KeeperAnswer → DoorEntry
 call node inc asked answer = entry (acts.Call node inc asked answer)
+
+-- an entry of the opening
+abbrev pub opening_entry : DoorAct → DoorEntry
+opening_entry act = record { by = record { client = 0; line = 0 }; act = act }
+
+-- a page of the opening, from a prefix's first name on
+abbrev pub first_page : List ℕ → List Pair → DoorEntry
+first_page prefix pairs = opening_entry (acts.Call 0 1 (Scan prefix [] 64) (answers.Page pairs))
+
+-- keys and commits
+abbrev pub x : List ℕ
+x = codes "x"
+
+abbrev pub y : List ℕ
+y = codes "y"
+
+-- what the transaction 1 wrote at time 1000, and what 3 wrote over it at time 1001
+abbrev pub first : Commit
+first = record { id = id_of 1000 1; keys = x ∷ y ∷ [] }
+
+abbrev pub second : Commit
+second = record { id = id_of 1001 3; keys = x ∷ y ∷ [] }
+
+-- a record, a version and markers, each under its name
+abbrev pub record_pair : Commit → Pair
+record_pair c = record { name = name_text (CommitOf c.id.uuid); bytes = commit_row c }
+
+abbrev pub version_pair : List ℕ → TxnId → Pair
+version_pair key id = record { name = version_of key id; bytes = version_row (record { id = id; key = key; value = codes "hi" }) }
+
+abbrev pub full_pair : Commit → Pair
+full_pair c = record { name = name_text (RetiredOf c.id.uuid); bytes = marker_row (Full c) }
+
+abbrev pub done_pair : TxnId → Pair
+done_pair id = record { name = name_text (RetiredOf id.uuid); bytes = marker_row (Done id) }
+
+-- a put of a pair, and a delete and a get of a name
+abbrev pub puts : ℕ → ℕ → Pair → KeeperAnswer → DoorEntry
+puts node inc pair answer = call node inc (Put pair.name pair.bytes) answer
+
+abbrev pub deletes : List ℕ → KeeperAnswer → DoorEntry
+deletes name answer = call 0 1 (Delete name) answer
+
+abbrev pub gets : ℕ → ℕ → List ℕ → KeeperAnswer → DoorEntry
+gets node inc name answer = call node inc (Get name) answer
+
+-- membership and claims
+abbrev pub comes_up : ℕ → ℕ → DoorEntry
+comes_up node inc = entry (acts.Up node inc)
+
+abbrev pub fences : ℕ → ℕ → DoorEntry
+fences node inc = entry (acts.Fence node inc)
+
+abbrev pub claims : ℕ → ℕ → ℕ → DoorEntry
+claims n node inc = entry (acts.Claim (u n) node inc)
+
+abbrev pub releases : ℕ → ℕ → ℕ → DoorEntry
+releases n node inc = entry (acts.Release (u n) node inc)
+
+abbrev pub gives_up : ℕ → ℕ → TxnId → DoorEntry
+gives_up node inc id = entry (acts.GiveUp node inc id)
+
+-- a get of the opening, and one that finds a pair
+abbrev pub opening_get : List ℕ → KeeperAnswer → DoorEntry
+opening_get name answer = opening_entry (acts.Call 0 1 (Get name) answer)
+
+abbrev pub finds : Pair → DoorEntry
+finds pair = opening_get pair.name (answers.Found pair.bytes)

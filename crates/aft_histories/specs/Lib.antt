@@ -1,2 +1,4 @@
 pub mod Entries
 pub mod Honest
+pub mod Legal
+pub mod Illegal

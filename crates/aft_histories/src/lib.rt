@@ -2,6 +2,10 @@
 //! function is a call that does nothing and promises what the definitions say of some of them.
 #![tactic(auto)]
 
+mod doors;
 mod honesty;
+mod refused;
 
+pub use doors::legal;
 pub use honesty::{dishonest, honest};
+pub use refused::{callers_refused, collection_refused, openings_refused, puts_refused};
