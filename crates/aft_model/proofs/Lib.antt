@@ -1,1 +1,2 @@
 pub mod ReadSets
+pub mod Growth
