@@ -14,3 +14,4 @@ pub mod DoorKnowledge
 pub mod Opening
 pub mod DoorRules
 pub mod LegalDoor
+pub mod Course

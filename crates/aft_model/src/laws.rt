@@ -1,12 +1,15 @@
 //! Laws of this crate's definitions, as calls that do nothing and promise them.
 
-ghost use Rattle.std.specs.Prelude.{◌++◌, ℕ, List, IsTrue};
+ghost use Rattle.std.specs.Prelude.{◌≡◌, ◌++◌, ℕ, List, IsTrue};
 ghost use Rattle.aft_id.specs.declared.txn_id.TxnId.{TxnId};
 ghost use Rattle.aft_records.specs.declared.stored.Commit.{Commit};
 ghost use Rattle.aft_model.specs.declared.door.DoorEntry.{DoorEntry};
 ghost use Rattle.aft_model.specs.Committed.{Committed, Marked, Superseded, committed};
 ghost use Rattle.aft_model.specs.DoorKnowledge.{is_open, knows_unused, knows_stored, knows_superseded, knows_marked, knows_record_gone, knows_versions_gone};
 ghost use Rattle.aft_model.specs.Membership.{Incarnation};
+ghost use Rattle.aft_model.specs.Course.{KeepsCourse, DeletesNothing};
+ghost use Rattle.aft_model.specs.Honest.{Honest};
+ghost use Rattle.aft_model.specs.LegalDoor.{Legal};
 
 /// What a history has acknowledged or shown stays so, whatever is added.
 pub fn facts_grow()
@@ -25,5 +28,13 @@ pub fn knowledge_stays()
     ensures marked { (uuid : List ℕ) (history more : List DoorEntry) → IsTrue (knows_marked uuid history) → IsTrue (knows_marked uuid (history ++ more)) }
     ensures record_gone { (id : TxnId) (history more : List DoorEntry) → IsTrue (knows_record_gone id history) → IsTrue (knows_record_gone id (history ++ more)) }
     ensures versions_gone { (id : TxnId) (history more : List DoorEntry) → IsTrue (knows_versions_gone id history) → IsTrue (knows_versions_gone id (history ++ more)) }
+{
+}
+
+/// In a history without deletes, over a store that keeps what it acknowledged, an id commits once, if each
+/// record was put when it was its caller's turn: since a claim that it had not released the caller had found no
+/// record, and it had put none since.
+pub fn id_commits_once()
+    ensures { (c d : Commit) (history : List DoorEntry) → Legal history → Honest history → KeepsCourse history → DeletesNothing history → Committed c history → Committed d history → c.id.uuid ≡ d.id.uuid → c ≡ d }
 {
 }
