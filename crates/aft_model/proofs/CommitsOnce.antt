@@ -4,7 +4,7 @@ use Rattle.std.specs.Prelude.{IsTrue, IsFalse, Option, Some, None}
 use Rattle.std.specs.Cmp.Lexicographic.{pointwise}
 use Rattle.std.specs.List.{list_any, list_all}
 use Rattle.std.specs.Str.{bytes_eq}
-use Rattle.std.proofs.lemmas.Bool.{and_parts, or_cases, eqb-true, false≢true}
+use Rattle.std.proofs.lemmas.Bool.{and_parts, or_cases, eqb-true, false≢true, false_from_ne_true}
 use Rattle.aft_id.specs.declared.txn_id.TxnId.{TxnId}
 use Rattle.aft_keeper.specs.declared.keeper.KeeperAnswer.{KeeperAnswer}
 use Rattle.aft_keeper.specs.declared.keeper.KeeperCall.TheVariants.{Put}
@@ -16,7 +16,7 @@ use Rattle.aft_model.specs.declared.door.DoorAct.TheVariants.{Call}
 use Rattle.aft_model.specs.declared.door.DoorEntry.{DoorEntry}
 use Rattle.aft_model.specs.Claims.{is_held_by, claimant, holder}
 use Rattle.aft_model.specs.Committed.{Committed, committed}
-use Rattle.aft_model.specs.Course.{none_is, is_due, puts_when_due, is_delete, KeepsCourse, DeletesNothing}
+use Rattle.aft_model.specs.Course.{none_is, is_due, puts_record, puts_when_due, is_delete, KeepsCourse, DeletesNothing}
 use Rattle.aft_model.specs.DoorRules.{may_put_version, may_put_record, may_put_marker, may_put}
 use Rattle.aft_model.specs.Evidence.{shown}
 use Rattle.aft_model.specs.History.{each_after}
@@ -26,10 +26,11 @@ use Rattle.aft_model.specs.MayHold.{may_hold}
 use Rattle.aft_model.specs.Membership.{Incarnation, is_up}
 use Rattle.aft_model.specs.Opening.{may_read}
 use Rattle.aft_model.specs.Readings.{same_id, same_commit, record_name, records_in, versions_in, markers_in}
-use Rattle.aft_model.proofs.Histories.{In, any_found, all_at}
+use Rattle.aft_model.specs.Sound.{has_uuid}
+use Rattle.aft_model.proofs.Histories.{In, any_found, all_at, each_after_snoc}
 use Rattle.aft_model.proofs.Honesty.{honest_about}
 use Rattle.aft_model.proofs.OneCommit.{Once, once_at_first, once_after, PutsWhenClear, is_clear}
-use Rattle.aft_model.proofs.Sights.{same_bytes, read-one, no_version, no_marker, commits_at}
+use Rattle.aft_model.proofs.Sights.{same_bytes, read-name, read-one, no_version, no_marker, commits_at}
 use Rattle.aft_model.proofs.Turns.{by_rule, held_up, Turn, turn_at_first, turn_after}
 
 -- ---- commits that are the same
@@ -114,6 +115,18 @@ module _ (uuid : List ℕ) where
       subst State (append_assoc before (entry ∷ []) entries)
       (states (before ++ entry ∷ []) entries (state_after before entry state l.0 h.0 d.0 k.0) l.1 h.1 d.1 k.1)
 
+  -- a put of a record of the UUID is under its name
+  put_under : (who : Incarnation) (act : DoorAct) → IsTrue (puts_record who uuid act)
+      → (node : ℕ) × (inc : ℕ) × (bytes : List ℕ) × (answer : KeeperAnswer) × (d : Commit) × (act ≡ Call node inc (Put (record_name uuid) bytes) answer)
+      × In d (commits_at uuid (Some bytes)) × (d.id.uuid ≡ uuid)
+  put_under who (Call node inc (Put name bytes) answer) put =
+      let found = any_found (has_uuid uuid) (records_in (record { name = name; bytes = bytes })) (and_parts _ _ put).1 in
+      let of : found.0.id.uuid ≡ uuid = sym (same_bytes uuid found.0.id.uuid found.2) in
+      let named : name ≡ record_name uuid = read-name name (λ (c : Commit). record_name c.id.uuid) (commit_of bytes) found.0 found.1 ∙ ap record_name of in
+      (node, inc, bytes, answer, found.0, ap (λ n. Call node inc (Put n bytes) answer) named,
+      subst (λ n. In found.0 (records_in (record { name = n; bytes = bytes }))) named found.1, of)
+  put_under who act put = absurd (false≢true put)
+
 -- an id is committed with at most one commit
 pub commits_once : (c d : Commit) (history : List DoorEntry) → Legal history → Honest history → KeepsCourse history → DeletesNothing history
     → Committed c history → Committed d history → c.id.uuid ≡ d.id.uuid → c ≡ d
@@ -125,3 +138,20 @@ commits_once c d history legal honest due kept of_c of_d same =
     let is_c : c ≡ found_c.0 = same_commits c found_c.0 found_c.2 in
     let is_d : d ≡ found_d.0 = same_commits d found_d.0 found_d.2 in
     is_c ∙ state.once.one found_c.0 found_d.0 found_c.1 found_d.1 (ap (λ (x : Commit). x.id.uuid) (sym is_c)) (ap (λ (x : Commit). x.id.uuid) (sym is_d) ∙ sym same) ∙ sym is_d
+
+-- no record of a UUID is put once the UUID is committed
+pub no_more_puts : (c : Commit) (who : Incarnation) (history : List DoorEntry) (entry : DoorEntry) → Legal (history ++ entry ∷ []) → Honest (history ++ entry ∷ [])
+    → KeepsCourse (history ++ entry ∷ []) → DeletesNothing history → Committed c history → IsFalse (puts_record who c.id.uuid entry.act)
+no_more_puts c who history entry legal honest due kept of =
+    false_from_ne_true (puts_record who c.id.uuid entry.act) (λ put.
+    let uuid = c.id.uuid in
+    let l = each_after_snoc may_follow [] history entry legal in
+    let h = each_after_snoc (λ before e. agrees (may_hold (record_name uuid) before) (shown (record_name uuid) e)) [] history entry (honest_about (record_name uuid) (history ++ entry ∷ []) honest) in
+    let d = each_after_snoc (λ before (e : DoorEntry). puts_when_due before e.act) [] history entry due in
+    let first : State uuid [] = record { once = once_at_first uuid; turn = λ w. turn_at_first w uuid } in
+    let state = states uuid [] history first l.0 h.0 d.0 kept in
+    let it = put_under uuid who entry.act put in
+    let turn = puts_when_clear uuid history state entry.act (by_rule history entry l.1).1 d.1 it.0 it.1 it.2 it.3 it.5 it.4 it.6 it.7 in
+    let found = any_found (same_commit c) (committed history) of in
+    let is : c ≡ found.0 = same_commits c found.0 found.2 in
+    (state.once.free (record { node = it.0; inc = it.1 }) turn.0 turn.1).0 found.0 found.1 (ap (λ (x : Commit). x.id.uuid) (sym is)))

@@ -1,10 +1,10 @@
 -- Lemmas on lists and histories.
-use Rattle.std.proofs.Common.{◌≡◌, ℕ, Bool, true, false, ◌&&◌, ◌||◌, not, List, [], ◌∷◌, ◌++◌, refl, sym, ap, subst, ◌∙◌, ◌⊎◌, inl, inr}
+use Rattle.std.proofs.Common.{◌≡◌, ℕ, Bool, true, false, ◌&&◌, ◌||◌, not, List, [], ◌∷◌, ◌++◌, refl, sym, ap, subst, ◌∙◌, ◌⊎◌, inl, inr, append_assoc, append-nil}
 use Rattle.std.specs.Prelude.{IsTrue, IsFalse}
 use Rattle.std.specs.List.{list_any, list_all, flat_map}
 use Rattle.std.proofs.lemmas.Bool.{and_parts, and_from, or_cases, or_left, or_right, not-true, true≢false, false≢true}
 use Rattle.std.proofs.lemmas.List.Concat.{flat_map-append}
-use Rattle.aft_model.specs.History.{followed}
+use Rattle.aft_model.specs.History.{each_after, followed}
 
 -- an element of a list
 abbrev pub In : {A : Type 0} → A → List A → Type 0
@@ -87,3 +87,14 @@ followed_snoc {A} first bad (y ∷ ys) x passed =
             inl (or_left _ _ (and_from _ _ parts.0 split.0), not-true (bad x) last.0))
       | inr later ↦ elim (followed_snoc first bad ys x later) [ inl rest ↦ inl (or_right _ _ rest.0, rest.1) | inr starts ↦ inr starts ]
     ]
+
+-- each entry of a longer history passes where each of the history does, and the last one behind it
+pub each_after_snoc : {A : Type 0} (rule : List A → A → Bool) (before xs : List A) (x : A) → IsTrue (each_after rule before (xs ++ x ∷ []))
+    → IsTrue (each_after rule before xs) × IsTrue (rule (before ++ xs) x)
+each_after_snoc rule before [] x passed =
+    let parts = and_parts (rule before x) true passed in
+    (refl, subst (λ h. IsTrue (rule h x)) (sym (append-nil before)) parts.0)
+each_after_snoc rule before (y ∷ ys) x passed =
+    let parts = and_parts (rule before y) (each_after rule (before ++ y ∷ []) (ys ++ x ∷ [])) passed in
+    let rest = each_after_snoc rule (before ++ y ∷ []) ys x parts.1 in
+    (and_from _ _ parts.0 rest.0, subst (λ h. IsTrue (rule h x)) (append_assoc before (y ∷ []) ys) rest.1)

@@ -1,14 +1,14 @@
 //! Laws of this crate's definitions, as calls that do nothing and promise them.
 
-ghost use Rattle.std.specs.Prelude.{◌≡◌, ◌++◌, ℕ, List, IsTrue};
+ghost use Rattle.std.specs.Prelude.{◌≡◌, ◌++◌, ℕ, List, [], ◌∷◌, IsTrue, IsFalse};
 ghost use Rattle.aft_id.specs.declared.txn_id.TxnId.{TxnId};
 ghost use Rattle.aft_records.specs.declared.stored.Commit.{Commit};
 ghost use Rattle.aft_model.specs.declared.door.DoorEntry.{DoorEntry};
 ghost use Rattle.aft_model.specs.Committed.{Committed, Marked, Superseded, committed};
 ghost use Rattle.aft_model.specs.DoorKnowledge.{is_open, knows_unused, knows_stored, knows_superseded, knows_marked, knows_record_gone, knows_versions_gone};
 ghost use Rattle.aft_model.specs.Membership.{Incarnation};
-ghost use Rattle.aft_model.specs.Course.{KeepsCourse, DeletesNothing};
-ghost use Rattle.aft_model.specs.Honest.{Honest};
+ghost use Rattle.aft_model.specs.Course.{KeepsCourse, DeletesNothing, puts_record};
+ghost use Rattle.aft_model.specs.Honest.{Honest, is_honest_about};
 ghost use Rattle.aft_model.specs.LegalDoor.{Legal};
 
 /// What a history has acknowledged or shown stays so, whatever is added.
@@ -31,10 +31,17 @@ pub fn knowledge_stays()
 {
 }
 
+/// A store that shows only what the names that are called or listed may hold shows of each name what it may hold.
+pub fn honest_everywhere()
+    ensures { (name : List ℕ) (history : List DoorEntry) → Honest history → IsTrue (is_honest_about name history) }
+{
+}
+
 /// In a history without deletes, over a store that keeps what it acknowledged, an id commits once, if each
 /// record was put when it was its caller's turn: since a claim that it had not released the caller had found no
 /// record, and it had put none since.
 pub fn id_commits_once()
-    ensures { (c d : Commit) (history : List DoorEntry) → Legal history → Honest history → KeepsCourse history → DeletesNothing history → Committed c history → Committed d history → c.id.uuid ≡ d.id.uuid → c ≡ d }
+    ensures one_commit { (c d : Commit) (history : List DoorEntry) → Legal history → Honest history → KeepsCourse history → DeletesNothing history → Committed c history → Committed d history → c.id.uuid ≡ d.id.uuid → c ≡ d }
+    ensures no_more_puts { (c : Commit) (who : Incarnation) (history : List DoorEntry) (entry : DoorEntry) → Legal (history ++ entry ∷ []) → Honest (history ++ entry ∷ []) → KeepsCourse (history ++ entry ∷ []) → DeletesNothing history → Committed c history → IsFalse (puts_record who c.id.uuid entry.act) }
 {
 }
