@@ -3,7 +3,6 @@ use Rattle.std.specs.Prelude.{ℕ, List, [], ◌∷◌, codes}
 use Rattle.std.specs.Int.{w128, to_be_bytes}
 use Rattle.aft_id.specs.declared.txn_id.TxnId.{TxnId}
 use Rattle.aft_records.specs.declared.stored.Commit.{Commit}
-use Rattle.aft_records.specs.declared.stored.Version.{Version}
 use Rattle.aft_records.specs.declared.stored.Marker.TheVariants.{Full, Done}
 use Rattle.aft_records.specs.declared.name.Name.TheVariants.{VersionOf, CommitOf, RetiredOf}
 use Rattle.aft_records.specs.Rows.{commit_row, version_row, marker_row}
@@ -13,7 +12,6 @@ use Rattle.aft_keeper.specs.declared.keeper.KeeperCall.{KeeperCall}
 use Rattle.aft_keeper.specs.declared.keeper.KeeperCall.TheVariants.{Get, Put, Delete, Scan}
 use Rattle.aft_keeper.specs.declared.keeper.KeeperAnswer.{KeeperAnswer}
 use Rattle.aft_keeper.specs.declared.keeper.KeeperAnswer.TheVariants as answers
-use Rattle.aft_model.specs.declared.caller.By.{By}
 use Rattle.aft_model.specs.declared.door.DoorAct.{DoorAct}
 use Rattle.aft_model.specs.declared.door.DoorAct.TheVariants as acts
 use Rattle.aft_model.specs.declared.door.DoorEntry.{DoorEntry}
@@ -36,12 +34,12 @@ abbrev pub version_of : List ℕ → TxnId → List ℕ
 version_of key id = name_text (VersionOf key id)
 
 -- an entry of a client's line
-abbrev pub entry : DoorAct → DoorEntry
-entry act = record { by = record { client = 1; line = 1 }; act = act }
+abbrev pub of_line : DoorAct → DoorEntry
+of_line act = record { by = record { client = 1; line = 1 }; act = act }
 
 -- a call of an incarnation, with its answer
-abbrev pub call : ℕ → ℕ → KeeperCall → KeeperAnswer → DoorEntry
-call node inc asked answer = entry (acts.Call node inc asked answer)
+abbrev pub asks : ℕ → ℕ → KeeperCall → KeeperAnswer → DoorEntry
+asks node inc asked answer = of_line (acts.Call node inc asked answer)
 
 -- an entry of the opening
 abbrev pub opening_entry : DoorAct → DoorEntry
@@ -80,29 +78,29 @@ done_pair id = record { name = name_text (RetiredOf id.uuid); bytes = marker_row
 
 -- a put of a pair, and a delete and a get of a name
 abbrev pub puts : ℕ → ℕ → Pair → KeeperAnswer → DoorEntry
-puts node inc pair answer = call node inc (Put pair.name pair.bytes) answer
+puts node inc pair answer = asks node inc (Put pair.name pair.bytes) answer
 
 abbrev pub deletes : List ℕ → KeeperAnswer → DoorEntry
-deletes name answer = call 0 1 (Delete name) answer
+deletes name answer = asks 0 1 (Delete name) answer
 
 abbrev pub gets : ℕ → ℕ → List ℕ → KeeperAnswer → DoorEntry
-gets node inc name answer = call node inc (Get name) answer
+gets node inc name answer = asks node inc (Get name) answer
 
 -- membership and claims
 abbrev pub comes_up : ℕ → ℕ → DoorEntry
-comes_up node inc = entry (acts.Up node inc)
+comes_up node inc = of_line (acts.Up node inc)
 
 abbrev pub fences : ℕ → ℕ → DoorEntry
-fences node inc = entry (acts.Fence node inc)
+fences node inc = of_line (acts.Fence node inc)
 
 abbrev pub claims : ℕ → ℕ → ℕ → DoorEntry
-claims n node inc = entry (acts.Claim (u n) node inc)
+claims n node inc = of_line (acts.Claim (u n) node inc)
 
 abbrev pub releases : ℕ → ℕ → ℕ → DoorEntry
-releases n node inc = entry (acts.Release (u n) node inc)
+releases n node inc = of_line (acts.Release (u n) node inc)
 
 abbrev pub gives_up : ℕ → ℕ → TxnId → DoorEntry
-gives_up node inc id = entry (acts.GiveUp node inc id)
+gives_up node inc id = of_line (acts.GiveUp node inc id)
 
 -- a get of the opening, and one that finds a pair
 abbrev pub opening_get : List ℕ → KeeperAnswer → DoorEntry

@@ -1,21 +1,19 @@
 -- Histories that the door may not have: a legal history, and the entry that may not follow it.
 use Rattle.std.specs.Prelude.{ℕ, Bool, List, [], ◌∷◌, ◌++◌, codes, IsFalse}
-use Rattle.aft_keeper.specs.declared.keeper.KeeperCall.TheVariants.{Get, Scan}
-use Rattle.aft_keeper.specs.declared.keeper.KeeperAnswer.TheVariants.{Failed, Absent, Found, Done, Page}
+use Rattle.aft_keeper.specs.declared.keeper.KeeperAnswer.TheVariants.{Failed, Absent, Done}
 use Rattle.aft_model.specs.LegalDoor.{Legal, is_legal}
 use Rattle.aft_model.specs.Membership.{Incarnation}
-use Rattle.aft_model.specs.declared.door.DoorAct.TheVariants.{Opened}
 use Rattle.aft_model.specs.declared.door.DoorEntry.{DoorEntry}
-use Rattle.aft_histories.specs.Entries.{x, y, first, second, record_of, marker_of, version_of, record_pair, version_pair, full_pair, done_pair, opening_entry, first_page, opening_get, finds, call, puts, deletes, gets, comes_up, fences, claims, releases, gives_up}
-use Rattle.aft_histories.specs.Legal.{empty_opening, read_opening, begun, stored, ordinary, superseded, marked}
+use Rattle.aft_histories.specs.Entries.{x, y, first, second, record_of, marker_of, version_of, record_pair, version_pair, first_page, opening_get, finds, puts, deletes, gets, comes_up, fences, claims, releases, gives_up}
+use Rattle.aft_histories.specs.Legal.{empty_opening, begun, superseded, marked}
 
 -- the history is legal, the rule refuses what should follow it, and with it the history isn't legal
 abbrev pub Refused : Bool → List DoorEntry → DoorEntry → Type 0
 Refused rule before next = Legal before × IsFalse rule × IsFalse (is_legal (before ++ next ∷ []))
 
 -- an incarnation of a node
-abbrev pub at : ℕ → ℕ → Incarnation
-at node inc = record { node = node; inc = inc }
+abbrev pub incarnation : ℕ → ℕ → Incarnation
+incarnation node inc = record { node = node; inc = inc }
 
 -- one of two versions is stored
 abbrev pub half_stored : List DoorEntry

@@ -1,6 +1,6 @@
 -- Histories that the door may have.
-use Rattle.std.specs.Prelude.{ℕ, List, [], ◌∷◌, ◌++◌, codes}
-use Rattle.aft_keeper.specs.declared.keeper.KeeperAnswer.TheVariants.{Failed, Absent, Found, Done, Page}
+use Rattle.std.specs.Prelude.{List, [], ◌∷◌, ◌++◌, codes}
+use Rattle.aft_keeper.specs.declared.keeper.KeeperAnswer.TheVariants.{Failed, Absent, Found, Done}
 use Rattle.aft_model.specs.declared.door.DoorAct.TheVariants.{Opened}
 use Rattle.aft_model.specs.declared.door.DoorEntry.{DoorEntry}
 use Rattle.aft_histories.specs.Entries.{x, y, first, second, record_of, marker_of, version_of, record_pair, version_pair, full_pair, done_pair, opening_entry, first_page, finds, puts, deletes, gets, comes_up, claims, releases, gives_up}

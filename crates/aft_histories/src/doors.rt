@@ -12,5 +12,4 @@ pub fn legal()
     ensures settled { Legal settled }
     ensures superseded { Legal superseded }
     ensures retired { Legal retired }
-{
-}
+{}

@@ -9,13 +9,11 @@ pub fn honest()
     ensures again { Honest shown_again }
     ensures there { Honest failed_and_there }
     ensures absent { Honest failed_and_absent }
-{
-}
+{}
 
 /// A store that forgets what it acknowledged.
 #[tactic(auto, unfolding(crate::proofs::Stored::stored_forms))]
 pub fn dishonest()
     ensures get { Honest forgotten → ⊥ }
     ensures page { Honest left_out → ⊥ }
-{
-}
+{}

@@ -3,9 +3,11 @@
 #![tactic(auto)]
 
 mod doors;
+mod facts;
 mod honesty;
 mod refused;
 
 pub use doors::legal;
+pub use facts::{commits, courses, door, pages, stores};
 pub use honesty::{dishonest, honest};
 pub use refused::{callers_refused, collection_refused, openings_refused, puts_refused};

@@ -1,8 +1,8 @@
 -- An id commits once: what holds of each UUID after the whole of a history.
-use Rattle.std.proofs.Common.{◌≡◌, ℕ, Bool, true, false, ◌&&◌, ◌||◌, not, List, [], ◌∷◌, ◌++◌, refl, sym, ap, subst, ◌∙◌, ◌⊎◌, inl, inr, eqb, append_assoc, append-nil}
-use Rattle.std.specs.Prelude.{IsTrue, IsFalse, Option, Some, None}
+use Rattle.std.proofs.Common.{◌≡◌, ℕ, ◌||◌, not, List, [], ◌∷◌, ◌++◌, refl, sym, ap, subst, ◌∙◌, ◌⊎◌, inl, inr, eqb, append_assoc, append-nil}
+use Rattle.std.specs.Prelude.{IsTrue, IsFalse, Some}
 use Rattle.std.specs.Cmp.Lexicographic.{pointwise}
-use Rattle.std.specs.List.{list_any, list_all}
+use Rattle.std.specs.List.{list_any}
 use Rattle.std.specs.Str.{bytes_eq}
 use Rattle.std.proofs.lemmas.Bool.{and_parts, or_cases, eqb-true, false≢true, false_from_ne_true}
 use Rattle.aft_id.specs.declared.txn_id.TxnId.{TxnId}
@@ -29,7 +29,7 @@ use Rattle.aft_model.specs.Readings.{same_id, same_commit, record_name, records_
 use Rattle.aft_model.specs.Sound.{has_uuid}
 use Rattle.aft_model.proofs.Histories.{In, any_found, all_at, each_after_snoc}
 use Rattle.aft_model.proofs.Honesty.{honest_about}
-use Rattle.aft_model.proofs.OneCommit.{Once, once_at_first, once_after, PutsWhenClear, is_clear}
+use Rattle.aft_model.proofs.OneCommit.{Once, once_at_first, once_after, PutsWhenClear}
 use Rattle.aft_model.proofs.Sights.{same_bytes, read-name, read-one, no_version, no_marker, commits_at}
 use Rattle.aft_model.proofs.Turns.{by_rule, held_up, Turn, turn_at_first, turn_after}
 
@@ -66,9 +66,10 @@ put_record : (history : List DoorEntry) (who : Incarnation) (uuid bytes : List �
     → IsTrue (list_any (may_put_record history who) (commits_at uuid (Some bytes)))
 put_record history who uuid bytes legal =
     elim (or_cases (list_any (may_put_version history who) (versions_in (under uuid bytes)) || list_any (may_put_record history who) (records_in (under uuid bytes))) (list_any (may_put_marker history who) (markers_in (under uuid bytes))) legal) [
-        inl first ↦ elim (or_cases (list_any (may_put_version history who) (versions_in (under uuid bytes))) (list_any (may_put_record history who) (records_in (under uuid bytes))) first) [
-            inl version ↦ absurd (false≢true (subst (λ vs. IsTrue (list_any (may_put_version history who) vs)) (no_version uuid (version_of bytes)) version))
-          | inr record_put ↦ record_put ]
+      | inl first ↦ elim (or_cases (list_any (may_put_version history who) (versions_in (under uuid bytes))) (list_any (may_put_record history who) (records_in (under uuid bytes))) first) [
+        | inl version ↦ absurd (false≢true (subst (λ vs. IsTrue (list_any (may_put_version history who) vs)) (no_version uuid (version_of bytes)) version))
+        | inr record_put ↦ record_put
+      ]
       | inr marker ↦ absurd (false≢true (subst (λ ms. IsTrue (list_any (may_put_marker history who) ms)) (no_marker uuid (marker_of bytes)) marker))
     ]
 
@@ -82,7 +83,7 @@ module _ (uuid : List ℕ) where
       → IsTrue (puts_when_due history act) → PutsWhenClear uuid history act
   puts_when_clear history before act rule due node inc bytes answer is d among of =
       elim (subst (λ a. IsTrue (may_come history a) ⊎ IsTrue (may_read history a)) is rule) [
-          inl come ↦ (let who : Incarnation = record { node = node; inc = inc } in
+        | inl come ↦ (let who : Incarnation = record { node = node; inc = inc } in
             let calls = and_parts (is_up who history) (may_put history who (under uuid bytes)) come in
             let found = any_found (may_put_record history who) (commits_at uuid (Some bytes)) (put_record history who uuid bytes calls.1) in
             let same : found.0 ≡ d = read-one (record_name uuid) (λ (e : Commit). record_name e.id.uuid) (commit_of bytes) found.0 d found.1 among in
@@ -91,7 +92,8 @@ module _ (uuid : List ℕ) where
             let turns = all_at (λ (c : Commit). is_due who c.id.uuid history) d (commits_at uuid (Some bytes)) among (subst (λ a. IsTrue (puts_when_due history a)) is due) in
             let mine : IsTrue (is_due who uuid history) = subst (λ u. IsTrue (is_due who u history)) of turns in
             ((before.turn who).clear mine held.1, held.0))
-        | inr read ↦ absurd (false≢true (and_parts _ _ read).1) ]
+        | inr read ↦ absurd (false≢true (and_parts _ _ read).1)
+      ]
 
   state_after : (history : List DoorEntry) (entry : DoorEntry) → State history → IsTrue (may_follow history entry)
       → IsTrue (agrees (may_hold (record_name uuid) history) (shown (record_name uuid) entry)) → IsTrue (puts_when_due history entry.act) → IsTrue (not (is_delete entry.act))
@@ -100,7 +102,8 @@ module _ (uuid : List ℕ) where
       let rule = by_rule history entry legal in
       record {
         once = once_after uuid history entry before.once honest (puts_when_clear history before entry.act rule.1 due) rule.0 kept;
-        turn = λ who. turn_after who uuid history (before.turn who) entry rule.1 }
+        turn = λ who. turn_after who uuid history (before.turn who) entry rule.1;
+      }
 
   states : (before entries : List DoorEntry) → State before → IsTrue (each_after may_follow before entries)
       → IsTrue (each_after (λ history entry. agrees (may_hold (record_name uuid) history) (shown (record_name uuid) entry)) before entries)
@@ -122,9 +125,16 @@ module _ (uuid : List ℕ) where
   put_under who (Call node inc (Put name bytes) answer) put =
       let found = any_found (has_uuid uuid) (records_in (record { name = name; bytes = bytes })) (and_parts _ _ put).1 in
       let of : found.0.id.uuid ≡ uuid = sym (same_bytes uuid found.0.id.uuid found.2) in
-      let named : name ≡ record_name uuid = read-name name (λ (c : Commit). record_name c.id.uuid) (commit_of bytes) found.0 found.1 ∙ ap record_name of in
-      (node, inc, bytes, answer, found.0, ap (λ n. Call node inc (Put n bytes) answer) named,
-      subst (λ n. In found.0 (records_in (record { name = n; bytes = bytes }))) named found.1, of)
+      let named : name ≡ record_name uuid = read-name name (λ (c : Commit). record_name c.id.uuid) (commit_of bytes) found.0 found.1 ∙ ap record_name of in (
+        node,
+        inc,
+        bytes,
+        answer,
+        found.0,
+        ap (λ n. Call node inc (Put n bytes) answer) named,
+        subst (λ n. In found.0 (records_in (record { name = n; bytes = bytes }))) named found.1,
+        of,
+      )
   put_under who act put = absurd (false≢true put)
 
 -- an id is committed with at most one commit

@@ -1,5 +1,5 @@
 -- What is true of a history and stays true with entries added.
-use Rattle.std.proofs.Common.{◌≡◌, ℕ, Bool, true, false, ◌&&◌, ◌||◌, List, [], ◌∷◌, ◌++◌, refl, inl, inr}
+use Rattle.std.proofs.Common.{ℕ, Bool, true, ◌&&◌, List, [], ◌∷◌, ◌++◌, refl, inl, inr}
 use Rattle.std.specs.Prelude.{IsTrue}
 use Rattle.std.specs.List.{list_any, list_all, flat_map}
 use Rattle.std.proofs.lemmas.Bool.{and_parts, and_from, or_cases, or_left, or_right}
@@ -7,8 +7,8 @@ use Rattle.std.proofs.lemmas.List.Concat.{flat_map-append}
 use Rattle.aft_id.specs.declared.txn_id.TxnId.{TxnId}
 use Rattle.aft_records.specs.declared.stored.Commit.{Commit}
 use Rattle.aft_model.specs.declared.door.DoorEntry.{DoorEntry}
-use Rattle.aft_model.specs.Committed.{committed_by, marked_by, committed, marked, is_among, wrote, is_superseded}
-use Rattle.aft_model.specs.DoorKnowledge.{claims, finds_absent, stores_version, deletes, found_unused, has_stored, knows_unused, knows_stored, knows_superseded, knows_marked, marked_then, shows_gone, knows_record_gone, has_deleted, knows_versions_gone}
+use Rattle.aft_model.specs.Committed.{committed, marked, is_among, is_superseded}
+use Rattle.aft_model.specs.DoorKnowledge.{found_unused, has_stored, knows_unused, knows_stored, knows_superseded, knows_marked, marked_then, shows_gone, knows_record_gone, has_deleted, knows_versions_gone}
 use Rattle.aft_model.specs.History.{followed}
 use Rattle.aft_model.specs.Membership.{Incarnation}
 
@@ -35,7 +35,7 @@ pub followed_grows : {A : Type 0} (first : A → Bool) (rest : List A → Bool) 
 followed_grows first rest grows [] ys passed = cc
 followed_grows first rest grows (x ∷ xs) ys passed =
     elim (or_cases (first x && rest xs) (followed first rest xs) passed) [
-        inl here ↦ (let parts = and_parts (first x) (rest xs) here in or_left _ _ (and_from _ _ parts.0 (grows xs ys parts.1)))
+      | inl here ↦ (let parts = and_parts (first x) (rest xs) here in or_left _ _ (and_from _ _ parts.0 (grows xs ys parts.1)))
       | inr later ↦ or_right _ _ (followed_grows first rest grows xs ys later)
     ]
 

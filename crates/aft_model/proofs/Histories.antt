@@ -1,8 +1,8 @@
 -- Lemmas on lists and histories.
-use Rattle.std.proofs.Common.{◌≡◌, ℕ, Bool, true, false, ◌&&◌, ◌||◌, not, List, [], ◌∷◌, ◌++◌, refl, sym, ap, subst, ◌∙◌, ◌⊎◌, inl, inr, append_assoc, append-nil}
+use Rattle.std.proofs.Common.{◌≡◌, Bool, true, false, ◌&&◌, not, List, [], ◌∷◌, ◌++◌, refl, sym, subst, ◌⊎◌, inl, inr, append_assoc, append-nil}
 use Rattle.std.specs.Prelude.{IsTrue, IsFalse}
 use Rattle.std.specs.List.{list_any, list_all, flat_map}
-use Rattle.std.proofs.lemmas.Bool.{and_parts, and_from, or_cases, or_left, or_right, not-true, true≢false, false≢true}
+use Rattle.std.proofs.lemmas.Bool.{and_parts, and_from, or_cases, or_left, or_right, not-true, false≢true}
 use Rattle.std.proofs.lemmas.List.Concat.{flat_map-append}
 use Rattle.aft_model.specs.History.{each_after, followed}
 
@@ -30,7 +30,7 @@ pub in_flat_map : {A B : Type 0} (f : A → List B) (y : B) (xs : List A) → In
 in_flat_map f y [] among = absurd among
 in_flat_map f y (x ∷ xs) among =
     elim (in_append y (f x) (flat_map f xs) among) [
-        inl here ↦ (x, inl refl, here)
+      | inl here ↦ (x, inl refl, here)
       | inr later ↦ (let found = in_flat_map f y xs later in (found.0, inr found.1, found.2))
     ]
 
@@ -39,7 +39,7 @@ pub in_flat_map_snoc : {A B : Type 0} (f : A → List B) (y : B) (xs : List A) (
 in_flat_map_snoc f y xs x among =
     let split : In y (flat_map f xs ++ flat_map f (x ∷ [])) = rw flat_map-append at among in
     elim (in_append y (flat_map f xs) (flat_map f (x ∷ [])) split) [
-        inl before ↦ inl before
+      | inl before ↦ inl before
       | inr last ↦ elim (in_append y (f x) [] last) [ inl here ↦ inr here | inr nowhere ↦ absurd nowhere ]
     ]
 
@@ -48,7 +48,7 @@ pub any_found : {A : Type 0} (test : A → Bool) (xs : List A) → IsTrue (list_
 any_found test [] passed = absurd (false≢true passed)
 any_found test (x ∷ xs) passed =
     elim (or_cases (test x) (list_any test xs) passed) [
-        inl here ↦ (x, inl refl, here)
+      | inl here ↦ (x, inl refl, here)
       | inr later ↦ (let found = any_found test xs later in (found.0, inr found.1, found.2))
     ]
 
@@ -75,16 +75,16 @@ pub followed_snoc : {A : Type 0} (first bad : A → Bool) (xs : List A) (x : A) 
     → (IsTrue (followed first (list_all (λ y. not (bad y))) xs) × IsFalse (bad x)) ⊎ IsTrue (first x)
 followed_snoc first bad [] x passed =
     elim (or_cases (first x && true) false passed) [
-        inl here ↦ inr (and_parts (first x) true here).0
+      | inl here ↦ inr (and_parts (first x) true here).0
       | inr nothing ↦ absurd (false≢true nothing)
     ]
 followed_snoc {A} first bad (y ∷ ys) x passed =
     let good : A → Bool = λ z. not (bad z) in
     elim (or_cases (first y && list_all good (ys ++ x ∷ [])) (followed first (list_all good) (ys ++ x ∷ [])) passed) [
-        inl here ↦ (let parts = and_parts (first y) (list_all good (ys ++ x ∷ [])) here in
-            let split = all_append good ys (x ∷ []) parts.1 in
-            let last = and_parts (good x) true split.1 in
-            inl (or_left _ _ (and_from _ _ parts.0 split.0), not-true (bad x) last.0))
+      | inl here ↦ (let parts = and_parts (first y) (list_all good (ys ++ x ∷ [])) here in
+          let split = all_append good ys (x ∷ []) parts.1 in
+          let last = and_parts (good x) true split.1 in
+          inl (or_left _ _ (and_from _ _ parts.0 split.0), not-true (bad x) last.0))
       | inr later ↦ elim (followed_snoc first bad ys x later) [ inl rest ↦ inl (or_right _ _ rest.0, rest.1) | inr starts ↦ inr starts ]
     ]
 

@@ -1,7 +1,7 @@
 -- An honest history is so about each name: one that no entry calls or lists is only shown absent.
-use Rattle.std.proofs.Common.{◌≡◌, ℕ, Bool, true, false, ◌&&◌, ◌||◌, List, [], ◌∷◌, ◌++◌, refl, sym, ap, subst, ◌∙◌, ◌⊎◌, inl, inr}
+use Rattle.std.proofs.Common.{◌≡◌, ℕ, Bool, true, false, List, [], ◌∷◌, ◌++◌, refl, sym, ap, subst, ◌∙◌, ◌⊎◌, inl, inr}
 use Rattle.std.specs.Prelude.{IsTrue, IsFalse, map, Option, Some, None, if◌then◌else◌}
-use Rattle.std.specs.List.{list_any, list_all, flat_map}
+use Rattle.std.specs.List.{list_any}
 use Rattle.std.specs.Str.{bytes_eq}
 use Rattle.std.proofs.lemmas.Bool.{and_from, or_parts, cases_Bool}
 use Rattle.std.proofs.lemmas.List.Folds.{list_any-append}
@@ -84,6 +84,7 @@ module _ (name : List ℕ) where
   pub honest_about : (history : List DoorEntry) → Honest history → IsTrue (is_honest_about name history)
   honest_about history honest =
       elim (cases_Bool (list_any (bytes_eq name) (names history))) [
-          inl named ↦ (let found = any_found (bytes_eq name) (names history) named in
+        | inl named ↦ (let found = any_found (bytes_eq name) (names history) named in
             subst (λ n. IsTrue (is_honest_about n history)) (sym (same_bytes name found.0 found.2)) (all_at (λ n. is_honest_about n history) found.0 (names history) found.1 honest))
-        | inr other ↦ unnamed_honest [] history (inl refl) other ]
+        | inr other ↦ unnamed_honest [] history (inl refl) other
+      ]

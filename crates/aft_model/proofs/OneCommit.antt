@@ -1,10 +1,10 @@
 -- An id commits once, over the history of the door: what holds of one UUID after each entry.
-use Rattle.std.proofs.Common.{◌≡◌, ℕ, Bool, true, false, ◌&&◌, ◌||◌, not, List, [], ◌∷◌, ◌++◌, refl, sym, ap, subst, ◌∙◌, ◌⊎◌, inl, inr, eqb}
+use Rattle.std.proofs.Common.{◌≡◌, ℕ, Bool, true, false, ◌||◌, not, List, [], ◌∷◌, ◌++◌, refl, sym, ap, subst, ◌∙◌, ◌⊎◌, inl, inr, eqb}
 use Rattle.std.specs.Prelude.{IsTrue, IsFalse, Option, Some, None, if◌then◌else◌}
-use Rattle.std.specs.List.{list_any, list_all, flat_map, fold}
+use Rattle.std.specs.List.{list_any, list_all}
 use Rattle.std.specs.Option.{option_eq}
 use Rattle.std.specs.Str.{bytes_eq}
-use Rattle.std.proofs.lemmas.Bool.{and_parts, and_from, or_cases, or_left, or_right, or_parts, not-true, eqb-true, eq-eqb, true≢false, false≢true, both_ways}
+use Rattle.std.proofs.lemmas.Bool.{and_parts, and_from, or_parts, eqb-true, eq-eqb, false≢true, both_ways}
 use Rattle.std.proofs.lemmas.List.Sums.{fold-append}
 use Rattle.aft_keeper.specs.declared.keeper.KeeperCall.TheVariants.{Get, Put}
 use Rattle.aft_keeper.specs.declared.keeper.KeeperAnswer.{KeeperAnswer}
@@ -24,10 +24,10 @@ use Rattle.aft_model.specs.Honest.{may_be, agrees}
 use Rattle.aft_model.specs.LegalDoor.{is_answered}
 use Rattle.aft_model.specs.MayHold.{MayHold, Unknown, OneOf, or_else, seen, after_act, may_hold}
 use Rattle.aft_model.specs.Membership.{Incarnation, same_incarnation}
-use Rattle.aft_model.specs.Readings.{record_name, records_in}
+use Rattle.aft_model.specs.Readings.{record_name}
 use Rattle.aft_model.specs.Sound.{has_uuid}
 use Rattle.aft_model.proofs.Histories.{In, in_append, in_flat_map_snoc, any_found, any_from, followed_snoc}
-use Rattle.aft_model.proofs.Sights.{same_bytes, bytes_eq-refl, read-one, given, commits_at, GivenBy, Quiet, Seen, Wrote, effect}
+use Rattle.aft_model.proofs.Sights.{same_bytes, bytes_eq-refl, read-one, given, commits_at, Quiet, Seen, Wrote, effect}
 
 -- ---- what a name may hold
 
@@ -112,7 +112,7 @@ module _ (uuid : List ℕ) where
     pub one : (c d : Commit) → In c (committed history) → In d (committed history) → c.id.uuid ≡ uuid → d.id.uuid ≡ uuid → c ≡ d
     pub kept : (c : Commit) → In c (committed history) → c.id.uuid ≡ uuid → Surely (Only c) (may_hold (record_name uuid) history)
     pub free : (who : Incarnation) → IsTrue (is_clear who history) → IsTrue (is_held_by who (claimant uuid history))
-      → Unrecorded history × Surely Free (may_hold (record_name uuid) history)
+        → Unrecorded history × Surely Free (may_hold (record_name uuid) history)
 
   pub once_at_first : Once []
   once_at_first = record { one = λ c d a b of_c of_d. absurd a; kept = λ c a of. absurd a; free = λ who clear held. absurd (false≢true clear) }
@@ -153,7 +153,8 @@ module _ (uuid : List ℕ) where
       record {
         sight = ap (λ b. if b then Some None else None) same;
         after = ap (λ b. seen (if b then Some None else None) before) same;
-        nothing = refl }
+        nothing = refl;
+      }
   found_absent who before act found = absurd (false≢true found)
 
   -- whoever puts a record of the UUID holds it, and has found none and put none since
@@ -163,7 +164,7 @@ module _ (uuid : List ℕ) where
       → IsTrue (is_clear (record { node = node; inc = inc }) history) × IsTrue (is_held_by (record { node = node; inc = inc }) (claimant uuid history))
 
   module _ (history : List DoorEntry) (entry : DoorEntry) (before : Once history)
-    (honest : IsTrue (agrees (may_hold (record_name uuid) history) (shown (record_name uuid) entry))) (due : PutsWhenClear history entry.act) where
+      (honest : IsTrue (agrees (may_hold (record_name uuid) history) (shown (record_name uuid) entry))) (due : PutsWhenClear history entry.act) where
     abbrev may : MayHold
     may = may_hold (record_name uuid) history
 
@@ -226,12 +227,12 @@ module _ (uuid : List ℕ) where
         (λ d a of. free d (s.from_it d a of) of, subst (Surely Free) (sym s.after) (Surely-one Free s.outcome free))
     still_free who (inr (inr w)) held put_none all =
         let free : Free (Some w.bytes) = λ d a of.
-          let turn = due w.node w.inc w.bytes w.answer w.is d a of in
-          let it : record { node = w.node; inc = w.inc } ≡ who = held_same (record { node = w.node; inc = w.inc }) who (claimant uuid history) turn.1 held in
-          let there : IsTrue (list_any (has_uuid uuid) (commits_at uuid (Some w.bytes))) = any_from (has_uuid uuid) d (commits_at uuid (Some w.bytes)) a (subst (λ u. IsTrue (bytes_eq uuid u)) (sym of) (bytes_eq-refl uuid)) in
-          let puts : IsTrue (puts_record who uuid entry.act) =
-            subst (λ act. IsTrue (puts_record who uuid act)) (sym w.is) (and_from _ _ (subst (λ (i : Incarnation). IsTrue (same_incarnation who i)) (sym it) (same_itself who)) there) in
-          both_ways (puts_record who uuid entry.act) put_none puts in
+        let turn = due w.node w.inc w.bytes w.answer w.is d a of in
+        let it : record { node = w.node; inc = w.inc } ≡ who = held_same (record { node = w.node; inc = w.inc }) who (claimant uuid history) turn.1 held in
+        let there : IsTrue (list_any (has_uuid uuid) (commits_at uuid (Some w.bytes))) = any_from (has_uuid uuid) d (commits_at uuid (Some w.bytes)) a (subst (λ u. IsTrue (bytes_eq uuid u)) (sym of) (bytes_eq-refl uuid)) in
+        let puts : IsTrue (puts_record who uuid entry.act) =
+        subst (λ act. IsTrue (puts_record who uuid act)) (sym w.is) (and_from _ _ (subst (λ (i : Incarnation). IsTrue (same_incarnation who i)) (sym it) (same_itself who)) there) in
+        both_ways (puts_record who uuid entry.act) put_none puts in
         (λ d a of. free d (w.from_it d a of) of, Surely-wrote Free w all free)
 
     free_after : (who : Incarnation) → Quiet uuid may entry.act ⊎ (Seen uuid may entry.act ⊎ Wrote uuid may entry.act)
@@ -239,16 +240,18 @@ module _ (uuid : List ℕ) where
         → Unrecorded (history ++ entry ∷ []) × Surely Free (after_act (record_name uuid) may entry.act)
     free_after who what clear held =
         elim (followed_snoc (λ (e : DoorEntry). finds_absent who (record_name uuid) e.act) (disturbs who) history entry clear) [
-            inl still ↦ (let quiet = or_parts (claimed_in entry.act) (puts_record who uuid entry.act) still.1 in
+          | inl still ↦ (let quiet = or_parts (claimed_in entry.act) (puts_record who uuid entry.act) still.1 in
               let held_then = held_before who (claimant uuid history) entry.act quiet.0 (subst (λ h. IsTrue (is_held_by who h)) (claimant-snoc uuid history entry) held) in
               let was = before.free who still.0 held_then in
               let now = still_free who what held_then quiet.1 was.1 in
               (λ c among of. elim (in_flat_map_snoc (λ (e : DoorEntry). committed_by e) c history entry among) [ inl old ↦ was.0 c old of | inr new ↦ now.0 c new of ], now.1))
-          | inr finds ↦ (let found = found_absent who may entry.act finds in
-              (λ c among of. elim (in_flat_map_snoc (λ (e : DoorEntry). committed_by e) c history entry among) [
-                  inl old ↦ seen_has (Only c) None found.sight (before.kept c old of)
-                | inr new ↦ subst (In c) found.nothing new ],
-              subst (Surely Free) (sym found.after) (Surely-one Free None (λ d among of. among))))
+          | inr finds ↦ (let found = found_absent who may entry.act finds in (
+            λ c among of. elim (in_flat_map_snoc (λ (e : DoorEntry). committed_by e) c history entry among) [
+              | inl old ↦ seen_has (Only c) None found.sight (before.kept c old of)
+              | inr new ↦ subst (In c) found.nothing new
+            ],
+            subst (Surely Free) (sym found.after) (Surely-one Free None (λ d among of. among)),
+          ))
         ]
 
     pub once_after : IsTrue (is_answered entry.act) → IsTrue (not (is_delete entry.act)) → Once (history ++ entry ∷ [])
@@ -258,8 +261,9 @@ module _ (uuid : List ℕ) where
         let now : after_act (record_name uuid) may entry.act ≡ may_hold (record_name uuid) (history ++ entry ∷ []) = sym (may_hold-snoc (record_name uuid) history entry) in
         record {
           one = λ c d in_c in_d of_c of_d. elim (both c in_c) [
-              inl old_c ↦ elim (both d in_d) [ inl old_d ↦ before.one c d old_c old_d of_c of_d | inr new_d ↦ beside c d what old_c new_d of_c of_d ]
+            | inl old_c ↦ elim (both d in_d) [ inl old_d ↦ before.one c d old_c old_d of_c of_d | inr new_d ↦ beside c d what old_c new_d of_c of_d ]
             | inr new_c ↦ elim (both d in_d) [ inl old_d ↦ sym (beside d c what old_d new_c of_d of_c) | inr new_d ↦ together c d what new_c new_d of_c of_d ]
           ];
           kept = λ c in_c of. subst (Surely (Only c)) now (elim (both c in_c) [ inl old ↦ kept_old c what old of | inr new ↦ kept_new c what new of ]);
-          free = λ who clear held. (let result = free_after who what clear held in (result.0, subst (Surely Free) now result.1)) }
+          free = λ who clear held. (let result = free_after who what clear held in (result.0, subst (Surely Free) now result.1));
+        }

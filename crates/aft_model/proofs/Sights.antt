@@ -1,17 +1,16 @@
 -- What an entry does to what the name of a record may hold, and which commits it proves.
-use Rattle.std.proofs.Common.{◌≡◌, ℕ, Bool, true, false, ◌&&◌, ◌||◌, not, List, [], ◌∷◌, ◌++◌, refl, sym, ap, subst, ◌∙◌, ◌⊎◌, inl, inr, cond}
-use Rattle.std.specs.Prelude.{IsTrue, IsFalse, Option, Some, None, Result, Ok, Err, if◌then◌else◌}
+use Rattle.std.proofs.Common.{◌≡◌, ℕ, Bool, true, false, not, List, [], ◌∷◌, ◌++◌, refl, sym, ap, subst, ◌∙◌, ◌⊎◌, inl, inr}
+use Rattle.std.specs.Prelude.{IsTrue, Option, Some, None, Result, Ok, Err, if◌then◌else◌}
 use Rattle.std.specs.Cmp.Lexicographic.{slice_cmp, bytes_decides}
-use Rattle.std.specs.List.{list_any, list_all, flat_map}
+use Rattle.std.specs.List.{flat_map}
 use Rattle.std.specs.Ordering.{nat_cmp, is_lt}
 use Rattle.std.specs.declared.cmp.Ordering.{Ordering}
 use Rattle.std.specs.declared.cmp.Ordering.TheVariants.{Less, Equal, Greater}
 use Rattle.std.specs.Str.{bytes_eq}
-use Rattle.std.proofs.lemmas.Bool.{and_parts, and_from, or_cases, true≢false, false≢true, false_from_ne_true}
+use Rattle.std.proofs.lemmas.Bool.{and_parts, true≢false, false≢true, false_from_ne_true}
 use Rattle.std.proofs.lemmas.Cmp.{nat_list_cmp_total, tied_itself}
 use Rattle.aft_keeper.specs.Contents.{name_lt, bytes_at}
 use Rattle.aft_keeper.specs.declared.keeper.Pair.{Pair}
-use Rattle.aft_keeper.specs.declared.keeper.KeeperCall.{KeeperCall}
 use Rattle.aft_keeper.specs.declared.keeper.KeeperCall.TheVariants.{Get, Put, Delete, Scan}
 use Rattle.aft_keeper.specs.declared.keeper.KeeperAnswer.{KeeperAnswer}
 use Rattle.aft_keeper.specs.declared.keeper.KeeperAnswer.TheVariants.{Failed, Absent, Found, Done, Page}
@@ -19,14 +18,14 @@ use Rattle.aft_records.specs.declared.fault.RecordFault.{RecordFault}
 use Rattle.aft_records.specs.declared.stored.Commit.{Commit}
 use Rattle.aft_records.specs.declared.stored.Version.{Version}
 use Rattle.aft_records.specs.declared.stored.Marker.{Marker}
-use Rattle.aft_records.specs.Reading.{commit_of, version_of, marker_of}
+use Rattle.aft_records.specs.Reading.{commit_of}
 use Rattle.aft_model.specs.declared.door.DoorAct.{DoorAct}
 use Rattle.aft_model.specs.declared.door.DoorAct.TheVariants.{Call}
 use Rattle.aft_model.specs.Evidence.{covers, shown_on_page, shown_in, pairs_in, stored_in}
 use Rattle.aft_model.specs.MayHold.{MayHold, OneOf, or_else, seen, after_act}
-use Rattle.aft_model.specs.LegalDoor.{ascends, is_page, is_answered}
+use Rattle.aft_model.specs.LegalDoor.{ascends, is_answered}
 use Rattle.aft_model.specs.Course.{is_delete}
-use Rattle.aft_model.specs.Readings.{record_name, marker_name, version_name, id_of_marker, read_under, records_in, markers_in, versions_in}
+use Rattle.aft_model.specs.Readings.{record_name, marker_name, version_name, id_of_marker, read_under, records_in}
 use Rattle.aft_model.proofs.Histories.{In, in_append, in_flat_map}
 
 pub same_bytes : (a b : List ℕ) → IsTrue (bytes_eq a b) → a ≡ b
@@ -168,43 +167,57 @@ module _ (uuid : List ℕ) where
 
   get_absent : (before : MayHold) (node inc : ℕ) (got : List ℕ) (t : Bool) → bytes_eq (record_name uuid) got ≡ t → Effect before (Call node inc (Get got) Absent)
   get_absent before node inc got true is = inr (inl (record {
-      outcome = None;
-      sight = ap (λ b. if b then Some None else None) is;
-      after = ap (λ b. seen (if b then Some None else None) before) is;
-      from_it = λ c among of. absurd among }))
+    outcome = None;
+    sight = ap (λ b. if b then Some None else None) is;
+    after = ap (λ b. seen (if b then Some None else None) before) is;
+    from_it = λ c among of. absurd among;
+  }))
   get_absent before node inc got false is = inl (record {
-      same = ap (λ b. seen (if b then Some None else None) before) is;
-      nothing = λ c among of. among })
+    same = ap (λ b. seen (if b then Some None else None) before) is;
+    nothing = λ c among of. among;
+  })
 
   get_found : (before : MayHold) (node inc : ℕ) (got bytes : List ℕ) (t : Bool) → bytes_eq (record_name uuid) got ≡ t → Effect before (Call node inc (Get got) (Found bytes))
   get_found before node inc got bytes true is = inr (inl (record {
-      outcome = Some bytes;
-      sight = ap (λ b. if b then Some (Some bytes) else None) is;
-      after = ap (λ b. seen (if b then Some (Some bytes) else None) before) is;
-      from_it = λ c among of. this_name got bytes is c (single got bytes c among) }))
+    outcome = Some bytes;
+    sight = ap (λ b. if b then Some (Some bytes) else None) is;
+    after = ap (λ b. seen (if b then Some (Some bytes) else None) before) is;
+    from_it = λ c among of. this_name got bytes is c (single got bytes c among);
+  }))
   get_found before node inc got bytes false is = inl (record {
-      same = ap (λ b. seen (if b then Some (Some bytes) else None) before) is;
-      nothing = λ c among of. other_name got bytes is c (single got bytes c among) of })
+    same = ap (λ b. seen (if b then Some (Some bytes) else None) before) is;
+    nothing = λ c among of. other_name got bytes is c (single got bytes c among) of;
+  })
 
   put_done : (before : MayHold) (node inc : ℕ) (put bytes : List ℕ) (t : Bool) → bytes_eq (record_name uuid) put ≡ t → Effect before (Call node inc (Put put bytes) Done)
   put_done before node inc put bytes true is = inr (inr (record {
-      node = node; inc = inc; bytes = bytes; answer = Done;
-      is = ap (λ n. Call node inc (Put n bytes) Done) (sym (same_bytes (record_name uuid) put is));
-      from_it = λ c among of. this_name put bytes is c (single put bytes c among);
-      after = inl (ap (λ b. if b then OneOf (Some bytes ∷ []) else before) is) }))
+    node = node;
+    inc = inc;
+    bytes = bytes;
+    answer = Done;
+    is = ap (λ n. Call node inc (Put n bytes) Done) (sym (same_bytes (record_name uuid) put is));
+    from_it = λ c among of. this_name put bytes is c (single put bytes c among);
+    after = inl (ap (λ b. if b then OneOf (Some bytes ∷ []) else before) is);
+  }))
   put_done before node inc put bytes false is = inl (record {
-      same = ap (λ b. if b then OneOf (Some bytes ∷ []) else before) is;
-      nothing = λ c among of. other_name put bytes is c (single put bytes c among) of })
+    same = ap (λ b. if b then OneOf (Some bytes ∷ []) else before) is;
+    nothing = λ c among of. other_name put bytes is c (single put bytes c among) of;
+  })
 
   put_failed : (before : MayHold) (node inc : ℕ) (put bytes : List ℕ) (t : Bool) → bytes_eq (record_name uuid) put ≡ t → Effect before (Call node inc (Put put bytes) Failed)
   put_failed before node inc put bytes true is = inr (inr (record {
-      node = node; inc = inc; bytes = bytes; answer = Failed;
-      is = ap (λ n. Call node inc (Put n bytes) Failed) (sym (same_bytes (record_name uuid) put is));
-      from_it = λ c among of. absurd among;
-      after = inr (ap (λ b. if b then or_else before (Some bytes) else before) is, refl) }))
+    node = node;
+    inc = inc;
+    bytes = bytes;
+    answer = Failed;
+    is = ap (λ n. Call node inc (Put n bytes) Failed) (sym (same_bytes (record_name uuid) put is));
+    from_it = λ c among of. absurd among;
+    after = inr (ap (λ b. if b then or_else before (Some bytes) else before) is, refl);
+  }))
   put_failed before node inc put bytes false is = inl (record {
-      same = ap (λ b. if b then or_else before (Some bytes) else before) is;
-      nothing = λ c among of. among })
+    same = ap (λ b. if b then or_else before (Some bytes) else before) is;
+    nothing = λ c among of. among;
+  })
 
   -- what a page gives of this UUID it lists under the name
   on_page : (pairs : List Pair) → IsTrue (ascends pairs) → (c : Commit) → In c (flat_map records_in pairs) → c.id.uuid ≡ uuid
@@ -212,30 +225,35 @@ module _ (uuid : List ℕ) where
   on_page pairs up c among of =
       let found = in_flat_map records_in c pairs among in
       let q = found.0 in
-      let named : q.name ≡ record_name uuid = read-name q.name (λ (d : Commit). record_name d.id.uuid) (commit_of q.bytes) c found.2 ∙ ap record_name of in
-      (q, subst (λ n. bytes_at n pairs ≡ Some q.bytes) named (listed_once q pairs up found.1),
-      subst (λ n. In c (records_in (record { name = n; bytes = q.bytes }))) named found.2)
+      let named : q.name ≡ record_name uuid = read-name q.name (λ (d : Commit). record_name d.id.uuid) (commit_of q.bytes) c found.2 ∙ ap record_name of in (
+        q,
+        subst (λ n. bytes_at n pairs ≡ Some q.bytes) named (listed_once q pairs up found.1),
+        subst (λ n. In c (records_in (record { name = n; bytes = q.bytes }))) named found.2,
+      )
 
   page_listed : (before : MayHold) (node inc : ℕ) (prefix after : List ℕ) (limit : ℕ) (pairs : List Pair) → IsTrue (ascends pairs)
       → (o : Option (List ℕ)) (t : Bool) → bytes_at (record_name uuid) pairs ≡ o → covers prefix after limit pairs (record_name uuid) ≡ t
       → Effect before (Call node inc (Scan prefix after limit) (Page pairs))
   page_listed before node inc prefix after limit pairs up (Some bytes) t is covered = inr (inl (record {
-      outcome = Some bytes;
-      sight = ap (λ o. shown_on_page o (covers prefix after limit pairs (record_name uuid))) is;
-      after = ap (λ o. seen (shown_on_page o (covers prefix after limit pairs (record_name uuid))) before) is;
-      from_it = λ c among of. (let found = on_page pairs up c among of in
+    outcome = Some bytes;
+    sight = ap (λ o. shown_on_page o (covers prefix after limit pairs (record_name uuid))) is;
+    after = ap (λ o. seen (shown_on_page o (covers prefix after limit pairs (record_name uuid))) before) is;
+    from_it = λ c among of. (let found = on_page pairs up c among of in
         let same : found.0.bytes ≡ bytes = let e : Some found.0.bytes ≡ Some bytes = sym found.1 ∙ is in cc in
-        subst (λ b. In c (commits_at (Some b))) same found.2) }))
+        subst (λ b. In c (commits_at (Some b))) same found.2);
+  }))
   page_listed before node inc prefix after limit pairs up None true is covered = inr (inl (record {
-      outcome = None;
-      sight = ap (λ o. shown_on_page o (covers prefix after limit pairs (record_name uuid))) is ∙ ap (shown_on_page None) covered;
-      after = ap (λ o. seen (shown_on_page o (covers prefix after limit pairs (record_name uuid))) before) is ∙ ap (λ t. seen (shown_on_page None t) before) covered;
-      from_it = λ c among of. (let found = on_page pairs up c among of in
-        let no : Some found.0.bytes ≡ None = sym found.1 ∙ is in cc) }))
+    outcome = None;
+    sight = ap (λ o. shown_on_page o (covers prefix after limit pairs (record_name uuid))) is ∙ ap (shown_on_page None) covered;
+    after = ap (λ o. seen (shown_on_page o (covers prefix after limit pairs (record_name uuid))) before) is ∙ ap (λ t. seen (shown_on_page None t) before) covered;
+    from_it = λ c among of. (let found = on_page pairs up c among of in
+        let no : Some found.0.bytes ≡ None = sym found.1 ∙ is in cc);
+  }))
   page_listed before node inc prefix after limit pairs up None false is covered = inl (record {
-      same = ap (λ o. seen (shown_on_page o (covers prefix after limit pairs (record_name uuid))) before) is ∙ ap (λ t. seen (shown_on_page None t) before) covered;
-      nothing = λ c among of. (let found = on_page pairs up c among of in
-        let no : Some found.0.bytes ≡ None = sym found.1 ∙ is in cc) })
+    same = ap (λ o. seen (shown_on_page o (covers prefix after limit pairs (record_name uuid))) before) is ∙ ap (λ t. seen (shown_on_page None t) before) covered;
+    nothing = λ c among of. (let found = on_page pairs up c among of in
+        let no : Some found.0.bytes ≡ None = sym found.1 ∙ is in cc);
+  })
 
   -- an answered act that deletes nothing leaves the name alone, shows it, or puts it
   pub effect : (before : MayHold) (act : DoorAct) → IsTrue (is_answered act) → IsTrue (not (is_delete act)) → Effect before act

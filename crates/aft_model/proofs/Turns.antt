@@ -1,27 +1,26 @@
 -- Whoever claims a UUID, is up and has not released it holds it, and nobody else claims it meanwhile.
-use Rattle.std.proofs.Common.{◌≡◌, ℕ, ◌<◌, Bool, true, false, ◌&&◌, ◌||◌, not, List, [], ◌∷◌, ◌++◌, refl, sym, ap, subst, ◌∙◌, ◌⊎◌, inl, inr, eqb, ltb, arith}
+use Rattle.std.proofs.Common.{◌≡◌, ℕ, Bool, true, false, ◌&&◌, ◌||◌, not, List, [], ◌∷◌, ◌++◌, refl, sym, ap, subst, ◌∙◌, ◌⊎◌, inl, inr, eqb, ltb, arith}
 use Rattle.std.specs.Prelude.{IsTrue, IsFalse, Option, Some, None, is_some, filter, if◌then◌else◌}
-use Rattle.std.specs.List.{list_any, list_all, flat_map, fold}
+use Rattle.std.specs.List.{list_any, list_all}
 use Rattle.std.specs.Str.{bytes_eq}
 use Rattle.std.proofs.lemmas.Bool.{and_parts, and_from, or_cases, or_left, or_right, or_from, not-true, true≢false, false≢true, false_from_ne_true, eq-eqb, le-ltb}
 use Rattle.std.proofs.lemmas.List.Concat.{flat_map-append}
 use Rattle.std.proofs.lemmas.List.Sums.{fold-append}
 use Rattle.std.proofs.lemmas.List.Folds.{list_any-append}
 use Rattle.aft_model.specs.declared.door.DoorAct.{DoorAct}
-use Rattle.aft_model.specs.declared.door.DoorAct.TheVariants.{Call, Opened, Up, Fence, Claim, Release, GiveUp}
+use Rattle.aft_model.specs.declared.door.DoorAct.TheVariants.{Up, Fence, Claim, Release}
 use Rattle.aft_model.specs.declared.door.DoorEntry.{DoorEntry}
-use Rattle.aft_model.specs.Claims.{is_held_by, claimant_after, claimant, if_up, holder, holds}
+use Rattle.aft_model.specs.Claims.{is_held_by, claimant_after, claimant, if_up, holder}
 use Rattle.aft_model.specs.Course.{releases, puts_record, none_is, is_due}
 use Rattle.aft_model.specs.DoorKnowledge.{is_open, claims, finds_absent}
-use Rattle.aft_model.specs.DoorRules.{may_claim, may_come_up}
 use Rattle.aft_model.specs.History.{followed}
 use Rattle.aft_model.specs.LegalDoor.{is_answered, may_come, may_follow}
-use Rattle.aft_model.specs.Membership.{Incarnation, office, same_incarnation, up_after, ups, is_up, fenced_in, fenced}
+use Rattle.aft_model.specs.Membership.{Incarnation, the_office, same_incarnation, up_after, ups, is_up, fenced_in, fenced}
 use Rattle.aft_model.specs.Opening.{may_open, may_read}
 use Rattle.aft_model.specs.Readings.{record_name}
 use Rattle.aft_model.proofs.Growth.{given_grows}
-use Rattle.aft_model.proofs.Histories.{In, in_front, in_back, any_found, any_from, all_at, all_append, followed_snoc}
-use Rattle.aft_model.proofs.OneCommit.{same_who, same_itself, held_same, claimant-snoc, claimed_in, disturbs, is_clear}
+use Rattle.aft_model.proofs.Histories.{in_front, in_back, any_found, any_from, all_at, all_append, followed_snoc}
+use Rattle.aft_model.proofs.OneCommit.{same_who, same_itself, held_same, claimant-snoc, claimed_in, is_clear}
 use Rattle.aft_model.proofs.Sights.{same_bytes}
 
 -- ---- lists
@@ -31,7 +30,7 @@ followed_some : {A : Type 0} (first : A → Bool) (rest : List A → Bool) (xs :
 followed_some first rest [] passed = passed
 followed_some first rest (x ∷ xs) passed =
     elim (or_cases (first x && rest xs) (followed first rest xs) passed) [
-        inl here ↦ or_left _ _ (and_parts (first x) (rest xs) here).0
+      | inl here ↦ or_left _ _ (and_parts (first x) (rest xs) here).0
       | inr later ↦ or_right _ _ (followed_some first rest xs later)
     ]
 
@@ -39,7 +38,7 @@ followed_implied : {A : Type 0} (first : A → Bool) (p q : List A → Bool) →
 followed_implied first p q more [] passed = passed
 followed_implied first p q more (x ∷ xs) passed =
     elim (or_cases (first x && p xs) (followed first p xs) passed) [
-        inl here ↦ (let parts = and_parts (first x) (p xs) here in or_left _ _ (and_from _ _ parts.0 (more xs parts.1)))
+      | inl here ↦ (let parts = and_parts (first x) (p xs) here in or_left _ _ (and_from _ _ parts.0 (more xs parts.1)))
       | inr later ↦ or_right _ _ (followed_implied first p q more xs later)
     ]
 
@@ -51,7 +50,7 @@ followed_more : {A : Type 0} (first good : A → Bool) (xs : List A) (x : A) →
 followed_more first good [] x passed last = absurd (false≢true passed)
 followed_more first good (y ∷ ys) x passed last =
     elim (or_cases (first y && list_all good ys) (followed first (list_all good) ys) passed) [
-        inl here ↦ (let parts = and_parts (first y) (list_all good ys) here in or_left _ _ (and_from _ _ parts.0 (all_snoc good ys x parts.1 last)))
+      | inl here ↦ (let parts = and_parts (first y) (list_all good ys) here in or_left _ _ (and_from _ _ parts.0 (all_snoc good ys x parts.1 last)))
       | inr later ↦ or_right _ _ (followed_more first good ys x later last)
     ]
 
@@ -74,8 +73,9 @@ any_filtered {A} p q (x ∷ xs) more passed = cases (any_filtered p q xs more) (
     cases : (IsTrue (list_any p xs) → IsTrue (list_any p (filter q xs))) → (t : Bool) → q x ≡ t → IsTrue (list_any p (if t then x ∷ filter q xs else filter q xs))
     cases rest true is = elim (or_cases (p x) (list_any p xs) passed) [ inl here ↦ or_left _ _ here | inr later ↦ or_right _ _ (rest later) ]
     cases rest false is = elim (or_cases (p x) (list_any p xs) passed) [
-        inl here ↦ absurd (true≢false (sym (more x here) ∙ is))
-      | inr later ↦ rest later ]
+      | inl here ↦ absurd (true≢false (sym (more x here) ∙ is))
+      | inr later ↦ rest later
+    ]
 
 -- ---- the rules
 
@@ -91,7 +91,7 @@ by_rule history entry legal =
     cases false opening = inr (and_parts _ _ opening).1
 
 ups-snoc : (history : List DoorEntry) (entry : DoorEntry) → ups (history ++ entry ∷ []) ≡ up_after (ups history) entry.act
-ups-snoc history entry = fold-append (λ (before : List Incarnation) (e : DoorEntry). up_after before e.act) (office ∷ []) history (entry ∷ [])
+ups-snoc history entry = fold-append (λ (before : List Incarnation) (e : DoorEntry). up_after before e.act) (the_office ∷ []) history (entry ∷ [])
 
 -- who holds a UUID has the claim that stands, and is up
 pub held_up : (who : Incarnation) (history : List DoorEntry) (c : Option Incarnation) → IsTrue (is_held_by who (if_up history c)) → IsTrue (is_held_by who c) × IsTrue (is_up who history)
@@ -143,17 +143,20 @@ module _ (who : Incarnation) (uuid : List ℕ) where
       → (IsTrue (is_due who uuid history) × IsFalse (puts_record who uuid entry.act)) ⊎ IsTrue (finds_absent who (record_name uuid) entry.act)
   due_snoc [] entry due =
       elim (or_cases (claims who uuid entry.act && false) false due) [
-          inl here ↦ absurd (false≢true (and_parts (claims who uuid entry.act) false here).1)
-        | inr nothing ↦ absurd (false≢true nothing) ]
+        | inl here ↦ absurd (false≢true (and_parts (claims who uuid entry.act) false here).1)
+        | inr nothing ↦ absurd (false≢true nothing)
+      ]
   due_snoc (y ∷ ys) entry due =
       elim (or_cases _ (is_due who uuid (ys ++ entry ∷ [])) due) [
-          inl here ↦ (let parts = and_parts _ _ here in
+        | inl here ↦ (let parts = and_parts _ _ here in
             let since = and_parts (none_is (releases who uuid) (ys ++ entry ∷ [])) _ parts.1 in
             let none = all_append (λ (e : DoorEntry). not (releases who uuid e.act)) ys (entry ∷ []) since.0 in
             elim (followed_snoc (λ (e : DoorEntry). finds_absent who (record_name uuid) e.act) (λ (e : DoorEntry). puts_record who uuid e.act) ys entry since.1) [
-                inl still ↦ inl (or_left _ _ (and_from _ _ parts.0 (and_from _ _ none.0 still.0)), still.1)
-              | inr finds ↦ inr finds ])
-        | inr later ↦ elim (due_snoc ys entry later) [ inl still ↦ inl (or_right _ _ still.0, still.1) | inr finds ↦ inr finds ] ]
+              | inl still ↦ inl (or_left _ _ (and_from _ _ parts.0 (and_from _ _ none.0 still.0)), still.1)
+              | inr finds ↦ inr finds
+            ])
+        | inr later ↦ elim (due_snoc ys entry later) [ inl still ↦ inl (or_right _ _ still.0, still.1) | inr finds ↦ inr finds ]
+      ]
 
   module _ (history : List DoorEntry) (before : Turn history) where
     -- it comes up once: whoever claimed and is up after an act was up before it
@@ -162,19 +165,21 @@ module _ (who : Incarnation) (uuid : List ℕ) where
     up_then (Up node inc) (inr read) claimed up = absurd (false≢true read)
     up_then (Up node inc) (inl come) claimed up =
         elim (or_cases (same_incarnation who (record { node = node; inc = inc })) (is_up who history) up) [
-            inl it ↦ elim (before.known claimed) [ inl was ↦ was | inr gone ↦ absurd (again it gone) ]
-          | inr was ↦ was ]
+          | inl it ↦ elim (before.known claimed) [ inl was ↦ was | inr gone ↦ absurd (again it gone) ]
+          | inr was ↦ was
+        ]
       where
         again : IsTrue (same_incarnation who (record { node = node; inc = inc })) → Fenced history → ⊥
         again it gone =
             let found = any_found (same_incarnation who) (fenced history) gone in
             let other : found.0 ≡ record { node = node; inc = inc } = sym (same_who who found.0 found.2) ∙ same_who who (record { node = node; inc = inc }) it in
             let newer = all_at (λ (i : Incarnation). not (eqb i.node node) || ltb i.inc inc) found.0 (fenced history) found.1
-              (and_parts (list_all (λ (i : Incarnation). not (eqb i.node node)) (ups history)) (list_all (λ (i : Incarnation). not (eqb i.node node) || ltb i.inc inc) (fenced history)) come).1 in
+            (and_parts (list_all (λ (i : Incarnation). not (eqb i.node node)) (ups history)) (list_all (λ (i : Incarnation). not (eqb i.node node) || ltb i.inc inc) (fenced history)) come).1 in
             let here : IsTrue (not (eqb node node) || ltb inc inc) = subst (λ (i : Incarnation). IsTrue (not (eqb i.node node) || ltb i.inc inc)) other newer in
             elim (or_cases (not (eqb node node)) (ltb inc inc) here) [
-                inl differs ↦ true≢false (sym (eq-eqb node node refl) ∙ not-true (eqb node node) differs)
-              | inr less ↦ true≢false (sym less ∙ le-ltb inc inc (omega arith)) ]
+              | inl differs ↦ true≢false (sym (eq-eqb node node refl) ∙ not-true (eqb node node) differs)
+              | inr less ↦ true≢false (sym less ∙ le-ltb inc inc (omega arith))
+            ]
     up_then (Fence node inc) rule claimed up = any_filter (same_incarnation who) _ (ups history) up
     up_then act rule claimed up = up
 
@@ -234,12 +239,15 @@ module _ (who : Incarnation) (uuid : List ℕ) where
       known_snoc : IsTrue (has_claimed (history ++ entry ∷ [])) → IsTrue (is_up who (history ++ entry ∷ [])) ⊎ Fenced (history ++ entry ∷ [])
       known_snoc claimed =
           elim (or_cases (has_claimed history) (claims who uuid entry.act || false) (subst IsTrue (list_any-append (λ (e : DoorEntry). claims who uuid e.act) history (entry ∷ [])) claimed)) [
-              inl old ↦ elim (before.known old) [
-                  inl up ↦ after (known_after entry.act rule (inl up))
-                | inr gone ↦ inr (given_grows (λ (e : DoorEntry). fenced_in e.act) (same_incarnation who) history (entry ∷ []) gone) ]
+            | inl old ↦ elim (before.known old) [
+              | inl up ↦ after (known_after entry.act rule (inl up))
+              | inr gone ↦ inr (given_grows (λ (e : DoorEntry). fenced_in e.act) (same_incarnation who) history (entry ∷ []) gone)
+            ]
             | inr new ↦ elim (or_cases (claims who uuid entry.act) false new) [
-                  inl it ↦ after (known_after entry.act rule (inr it))
-                | inr nothing ↦ absurd (false≢true nothing) ] ]
+              | inl it ↦ after (known_after entry.act rule (inr it))
+              | inr nothing ↦ absurd (false≢true nothing)
+            ]
+          ]
         where
           after : IsTrue (list_any (same_incarnation who) (up_after (ups history) entry.act)) ⊎ IsTrue (list_any (same_incarnation who) (fenced_in entry.act))
               → IsTrue (is_up who (history ++ entry ∷ [])) ⊎ Fenced (history ++ entry ∷ [])
@@ -254,20 +262,22 @@ module _ (who : Incarnation) (uuid : List ℕ) where
       held_snoc kept up =
           subst (λ h. IsTrue (is_held_by who h)) (sym (claimant-snoc uuid history entry))
           (elim (followed_snoc (λ (e : DoorEntry). claims who uuid e.act) (λ (e : DoorEntry). releases who uuid e.act) history entry kept) [
-              inl still ↦ (let was = was_up (followed_some _ _ history still.0) up in
+            | inl still ↦ (let was = was_up (followed_some _ _ history still.0) up in
                 let held = before.held still.0 was in
                 held_after entry.act (unclaimed entry.act rule held was) still.1 held)
-            | inr it ↦ claims_hold entry.act (claimant uuid history) it ])
+            | inr it ↦ claims_hold entry.act (claimant uuid history) it
+          ])
 
       clear_snoc : IsTrue (is_due who uuid (history ++ entry ∷ [])) → IsTrue (is_up who (history ++ entry ∷ [])) → IsTrue (is_clear uuid who (history ++ entry ∷ []))
       clear_snoc due up =
           elim (due_snoc history entry due) [
-              inl still ↦ (let kept = due_kept history still.0 in
+            | inl still ↦ (let kept = due_kept history still.0 in
                 let was = was_up (followed_some _ _ history kept) up in
                 let held = before.held kept was in
                 let free = unclaimed entry.act rule held was in
                 followed_more _ _ history entry (before.clear still.0 was) (ap not (or_from _ _ free still.1)))
-            | inr finds ↦ followed_last _ _ history entry finds ]
+            | inr finds ↦ followed_last _ _ history entry finds
+          ]
 
       pub turn_after : Turn (history ++ entry ∷ [])
       turn_after = record { known = known_snoc; held = held_snoc; clear = clear_snoc }

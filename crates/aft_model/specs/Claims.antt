@@ -1,5 +1,5 @@
 -- Who holds the claim of a UUID, and which commits an incarnation has given up.
-use Rattle.std.specs.Prelude.{ℕ, ◌&&◌, Bool, false, List, Option, Some, None, IsSome, is_some, if◌then◌else◌}
+use Rattle.std.specs.Prelude.{ℕ, ◌&&◌, Bool, false, List, Option, Some, None, if◌then◌else◌}
 use Rattle.std.specs.List.{list_any, fold}
 use Rattle.std.specs.Str.{bytes_eq}
 use Rattle.aft_id.specs.declared.txn_id.TxnId.{TxnId}

@@ -1,5 +1,5 @@
 -- What the course of a transaction's lines gives at the door, as far as an id's committing once needs it.
-use Rattle.std.specs.Prelude.{ℕ, Bool, true, false, not, ◌&&◌, List, [], ◌∷◌, IsTrue}
+use Rattle.std.specs.Prelude.{ℕ, Bool, true, false, not, ◌&&◌, List, [], IsTrue}
 use Rattle.std.specs.List.{list_any, list_all}
 use Rattle.std.specs.Str.{bytes_eq}
 use Rattle.aft_keeper.specs.declared.keeper.KeeperCall.TheVariants.{Put, Delete}

@@ -1,12 +1,12 @@
 -- The rules of the open door, one for each kind of entry: what the caller must know, and what the door tests in its turn.
-use Rattle.std.specs.Prelude.{ℕ, Bool, true, false, not, nat_lt, ◌==◌, ◌&&◌, ◌||◌, List, [], ◌∷◌, Option, Some, None, is_some}
+use Rattle.std.specs.Prelude.{ℕ, Bool, true, false, not, nat_lt, ◌==◌, ◌&&◌, ◌||◌, List, Option, Some, is_some}
 use Rattle.std.specs.List.{list_any, list_all}
 use Rattle.aft_id.specs.declared.txn_id.TxnId.{TxnId}
 use Rattle.aft_keeper.specs.declared.keeper.Pair.{Pair}
 use Rattle.aft_keeper.specs.declared.keeper.KeeperCall.{KeeperCall}
-use Rattle.aft_keeper.specs.declared.keeper.KeeperCall.TheVariants.{Get, Put, Delete, Scan}
+use Rattle.aft_keeper.specs.declared.keeper.KeeperCall.TheVariants.{Put, Delete}
 use Rattle.aft_records.specs.declared.name.Name.{Name}
-use Rattle.aft_records.specs.declared.name.Name.TheVariants.{VersionOf, CommitOf, RetiredOf}
+use Rattle.aft_records.specs.declared.name.Name.TheVariants.{VersionOf, CommitOf}
 use Rattle.aft_records.specs.declared.stored.Commit.{Commit}
 use Rattle.aft_records.specs.declared.stored.Version.{Version}
 use Rattle.aft_records.specs.declared.stored.Marker.{Marker}
@@ -15,7 +15,7 @@ use Rattle.aft_records.specs.Names.{name_of}
 use Rattle.aft_model.specs.declared.door.DoorEntry.{DoorEntry}
 use Rattle.aft_model.specs.Claims.{holder, holds, given_up}
 use Rattle.aft_model.specs.DoorKnowledge.{knows_unused, knows_stored, knows_superseded, knows_marked, knows_record_gone, knows_versions_gone}
-use Rattle.aft_model.specs.Membership.{Incarnation, office, same_incarnation, ups, fenced}
+use Rattle.aft_model.specs.Membership.{Incarnation, the_office, same_incarnation, ups, fenced}
 use Rattle.aft_model.specs.Readings.{records_in, markers_in, versions_in}
 
 -- an incarnation comes up: none of its node is up, and it is newer than each of its node that was fenced
@@ -48,8 +48,8 @@ all_gave_up history id = list_all (λ who. who.node == 0 || given_up who id hist
 
 -- a put of a marker, by the office: of a full one where the commit is known to be superseded, and each node that is up has given it up, and of a short one where its versions are known to be gone
 abbrev pub may_put_marker : List DoorEntry → Incarnation → Marker → Bool
-may_put_marker history who (Full c) = same_incarnation office who && knows_superseded c history && all_gave_up history c.id
-may_put_marker history who (Done id) = same_incarnation office who && knows_versions_gone id history
+may_put_marker history who (Full c) = same_incarnation the_office who && knows_superseded c history && all_gave_up history c.id
+may_put_marker history who (Done id) = same_incarnation the_office who && knows_versions_gone id history
 
 -- a put: of a version, a record or a marker, under its name
 abbrev pub may_put : List DoorEntry → Incarnation → Pair → Bool
@@ -60,8 +60,8 @@ may_put history who pair =
 
 -- a delete, by the office: of a record that is known to be marked, and of a version whose record is known to be gone
 abbrev pub may_delete : List DoorEntry → Incarnation → Option Name → Bool
-may_delete history who (Some (CommitOf uuid)) = same_incarnation office who && knows_marked uuid history
-may_delete history who (Some (VersionOf key id)) = same_incarnation office who && knows_record_gone id history
+may_delete history who (Some (CommitOf uuid)) = same_incarnation the_office who && knows_marked uuid history
+may_delete history who (Some (VersionOf key id)) = same_incarnation the_office who && knows_record_gone id history
 may_delete history who other = false
 
 -- a call: any get and any scan, and a put or a delete by its rule

@@ -13,7 +13,7 @@ use Rattle.aft_model.specs.declared.door.DoorEntry.{DoorEntry}
 use Rattle.aft_model.specs.DoorKnowledge.{is_open}
 use Rattle.aft_model.specs.DoorRules.{may_come_up, may_be_fenced, may_claim, may_release, may_call}
 use Rattle.aft_model.specs.History.{each_after}
-use Rattle.aft_model.specs.Membership.{Incarnation, is_up}
+use Rattle.aft_model.specs.Membership.{is_up}
 use Rattle.aft_model.specs.Opening.{may_open}
 
 -- whether names ascend strictly

@@ -1,5 +1,5 @@
 -- Which incarnations are up at the door, and which were fenced.
-use Rattle.std.specs.Prelude.{ℕ, ◌==◌, ◌&&◌, Bool, not, List, [], ◌∷◌, ◌++◌, filter, IsTrue}
+use Rattle.std.specs.Prelude.{ℕ, ◌==◌, ◌&&◌, Bool, not, List, [], ◌∷◌, filter}
 use Rattle.std.specs.List.{list_any, fold, flat_map}
 use Rattle.aft_model.specs.declared.door.DoorAct.{DoorAct}
 use Rattle.aft_model.specs.declared.door.DoorAct.TheVariants.{Up, Fence}
@@ -11,8 +11,8 @@ pub record Incarnation : Type 0 where
   pub inc : ℕ
 
 -- the office, which is always up
-abbrev pub office : Incarnation
-office = record { node = 0; inc = 1 }
+abbrev pub the_office : Incarnation
+the_office = record { node = 0; inc = 1 }
 
 -- whether two incarnations are the same
 abbrev pub same_incarnation : Incarnation → Incarnation → Bool
@@ -26,7 +26,7 @@ up_after before act = before
 
 -- who is up after a history
 abbrev pub ups : List DoorEntry → List Incarnation
-ups history = fold (λ before entry. up_after before entry.act) (office ∷ []) history
+ups history = fold (λ before entry. up_after before entry.act) (the_office ∷ []) history
 
 -- whether an incarnation is up
 abbrev pub is_up : Incarnation → List DoorEntry → Bool

@@ -1,5 +1,5 @@
 -- The opening: the office reads all records, then all markers, then each version of each record, and opens the door where all of it is sound.
-use Rattle.std.specs.Prelude.{ℕ, Bool, true, false, not, ◌&&◌, ◌||◌, ◌==◌, List, [], ◌∷◌, map, Option, Some}
+use Rattle.std.specs.Prelude.{ℕ, Bool, true, false, not, ◌&&◌, ◌||◌, ◌==◌, List, [], map, Some}
 use Rattle.std.specs.List.{list_any, list_all, flat_map}
 use Rattle.std.specs.Option.{option_eq}
 use Rattle.std.specs.Str.{bytes_eq}
@@ -12,7 +12,7 @@ use Rattle.aft_model.specs.declared.door.DoorAct.{DoorAct}
 use Rattle.aft_model.specs.declared.door.DoorAct.TheVariants.{Call, Opened}
 use Rattle.aft_model.specs.declared.door.DoorEntry.{DoorEntry}
 use Rattle.aft_model.specs.Evidence.{shown_pairs}
-use Rattle.aft_model.specs.Membership.{office, same_incarnation}
+use Rattle.aft_model.specs.Membership.{the_office, same_incarnation}
 use Rattle.aft_model.specs.Readings.{version_name}
 use Rattle.aft_model.specs.ScanRun.{ScanPage, same_line, scan_pages, page_limit, goes_on, is_scan_run}
 use Rattle.aft_model.specs.Sound.{records_prefix, markers_prefix, recorded, is_sound}
@@ -23,10 +23,10 @@ opening = record { client = 0; line = 0 }
 
 -- the pages of records and of markers that the opening has shown so far
 abbrev pub record_pages : List DoorEntry → List ScanPage
-record_pages history = scan_pages office opening records_prefix history
+record_pages history = scan_pages the_office opening records_prefix history
 
 abbrev pub marker_pages : List DoorEntry → List ScanPage
-marker_pages history = scan_pages office opening markers_prefix history
+marker_pages history = scan_pages the_office opening markers_prefix history
 
 -- what a history has shown
 abbrev pub all_shown : List DoorEntry → List Pair
@@ -46,13 +46,13 @@ abbrev pub has_got : List DoorEntry → List ℕ → Bool
 has_got history name = list_any (λ entry. gets name entry.act) history
 
 -- whether an act is a call that failed
-abbrev pub fails : DoorAct → Bool
-fails (Call node inc asked Failed) = true
-fails act = false
+abbrev pub is_failure : DoorAct → Bool
+is_failure (Call node inc asked Failed) = true
+is_failure act = false
 
 -- whether a call failed
 abbrev pub has_failed : List DoorEntry → Bool
-has_failed history = list_any (λ entry. fails entry.act) history
+has_failed history = list_any (λ entry. is_failure entry.act) history
 
 -- whether all records and all markers were shown
 abbrev pub all_scanned : List DoorEntry → Bool
@@ -73,7 +73,7 @@ knows_sound history = all_scanned history && list_all (has_got history) (version
 
 -- whether an act may come before the door is open
 abbrev pub may_read : List DoorEntry → DoorAct → Bool
-may_read history (Call node inc asked answer) = same_incarnation office (record { node = node; inc = inc }) && not (has_failed history) && is_next_read history asked
+may_read history (Call node inc asked answer) = same_incarnation the_office (record { node = node; inc = inc }) && not (has_failed history) && is_next_read history asked
 may_read history Opened = knows_sound history
 may_read history act = false
 

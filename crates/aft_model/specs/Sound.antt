@@ -1,5 +1,5 @@
 -- Which pairs of a store are sound together, and which of them offends first.
-use Rattle.std.specs.Prelude.{ℕ, Bool, false, not, ◌&&◌, ◌||◌, List, [], ◌∷◌, ◌++◌, length, ◌==◌, map, filter, Option, Some, None, nat_eq, IsTrue, codes, if◌then◌else◌}
+use Rattle.std.specs.Prelude.{ℕ, Bool, false, not, ◌&&◌, ◌||◌, List, ◌++◌, length, ◌==◌, map, filter, Option, Some, None, nat_eq, IsTrue, codes, if◌then◌else◌}
 use Rattle.std.specs.List.{list_any, flat_map, fold, starts_with}
 use Rattle.std.specs.Str.{bytes_eq}
 use Rattle.aft_keeper.specs.Contents.{name_lt}
@@ -7,7 +7,7 @@ use Rattle.aft_keeper.specs.declared.keeper.Pair.{Pair}
 use Rattle.aft_records.specs.declared.stored.Commit.{Commit}
 use Rattle.aft_records.specs.declared.stored.Marker.{Marker}
 use Rattle.aft_records.specs.declared.stored.Marker.TheVariants.{Full, Done}
-use Rattle.aft_model.specs.Readings.{same_commit, record_name, version_name, records_in, markers_in, is_version_at}
+use Rattle.aft_model.specs.Readings.{same_commit, version_name, records_in, markers_in, is_version_at}
 use Rattle.aft_model.specs.Committed.{is_superseded}
 
 -- the prefixes of the names of records and of markers

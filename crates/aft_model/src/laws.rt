@@ -16,8 +16,7 @@ pub fn facts_grow()
     ensures committed { (c : Commit) (history more : List DoorEntry) → Committed c history → Committed c (history ++ more) }
     ensures marked { (c : Commit) (history more : List DoorEntry) → Marked c history → Marked c (history ++ more) }
     ensures superseded { (c : Commit) (history more : List DoorEntry) → Superseded c (committed history) → Superseded c (committed (history ++ more)) }
-{
-}
+{}
 
 /// What the caller of each rule of the door must know stays true, whatever is added.
 pub fn knowledge_stays()
@@ -28,14 +27,12 @@ pub fn knowledge_stays()
     ensures marked { (uuid : List ℕ) (history more : List DoorEntry) → IsTrue (knows_marked uuid history) → IsTrue (knows_marked uuid (history ++ more)) }
     ensures record_gone { (id : TxnId) (history more : List DoorEntry) → IsTrue (knows_record_gone id history) → IsTrue (knows_record_gone id (history ++ more)) }
     ensures versions_gone { (id : TxnId) (history more : List DoorEntry) → IsTrue (knows_versions_gone id history) → IsTrue (knows_versions_gone id (history ++ more)) }
-{
-}
+{}
 
 /// A store that shows only what the names that are called or listed may hold shows of each name what it may hold.
 pub fn honest_everywhere()
     ensures { (name : List ℕ) (history : List DoorEntry) → Honest history → IsTrue (is_honest_about name history) }
-{
-}
+{}
 
 /// In a history without deletes, over a store that keeps what it acknowledged, an id commits once, if each
 /// record was put when it was its caller's turn: since a claim that it had not released the caller had found no
@@ -43,5 +40,4 @@ pub fn honest_everywhere()
 pub fn id_commits_once()
     ensures one_commit { (c d : Commit) (history : List DoorEntry) → Legal history → Honest history → KeepsCourse history → DeletesNothing history → Committed c history → Committed d history → c.id.uuid ≡ d.id.uuid → c ≡ d }
     ensures no_more_puts { (c : Commit) (who : Incarnation) (history : List DoorEntry) (entry : DoorEntry) → Legal (history ++ entry ∷ []) → Honest (history ++ entry ∷ []) → KeepsCourse (history ++ entry ∷ []) → DeletesNothing history → Committed c history → IsFalse (puts_record who c.id.uuid entry.act) }
-{
-}
+{}
