@@ -1,8 +1,7 @@
 -- Histories that the door may not have: a legal history, and the entry that may not follow it.
-use Rattle.std.specs.Prelude.{ℕ, Bool, List, [], ◌∷◌, ◌++◌, codes, IsFalse}
+use Rattle.std.specs.Prelude.{Bool, List, [], ◌∷◌, ◌++◌, codes, IsFalse}
 use Rattle.aft_keeper.specs.declared.keeper.KeeperAnswer.TheVariants.{Failed, Absent, Done}
 use Rattle.aft_model.specs.LegalDoor.{Legal, is_legal}
-use Rattle.aft_model.specs.Membership.{Incarnation}
 use Rattle.aft_model.specs.declared.door.DoorEntry.{DoorEntry}
 use Rattle.aft_histories.specs.Entries.{x, y, first, second, record_of, marker_of, version_of, record_pair, version_pair, first_page, opening_get, finds, puts, deletes, gets, comes_up, fences, claims, releases, gives_up}
 use Rattle.aft_histories.specs.Legal.{empty_opening, begun, superseded, marked}
@@ -10,10 +9,6 @@ use Rattle.aft_histories.specs.Legal.{empty_opening, begun, superseded, marked}
 -- the history is legal, the rule refuses what should follow it, and with it the history isn't legal
 abbrev pub Refused : Bool → List DoorEntry → DoorEntry → Type 0
 Refused rule before next = Legal before × IsFalse rule × IsFalse (is_legal (before ++ next ∷ []))
-
--- an incarnation of a node
-abbrev pub incarnation : ℕ → ℕ → Incarnation
-incarnation node inc = record { node = node; inc = inc }
 
 -- one of two versions is stored
 abbrev pub half_stored : List DoorEntry

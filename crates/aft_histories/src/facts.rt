@@ -8,14 +8,14 @@ ghost use Rattle.aft_model.specs.Evidence.{covers};
 ghost use Rattle.aft_model.specs.Honest.{Honest};
 ghost use Rattle.aft_model.specs.LegalDoor.{Legal};
 ghost use Rattle.aft_model.specs.MayHold.{Unknown, OneOf, may_hold};
-ghost use Rattle.aft_model.specs.Membership.{is_up, the_office};
+ghost use Rattle.aft_model.specs.Membership.{incarnation, is_up, the_office};
 ghost use Rattle.aft_model.specs.Readings.{has_reading};
 ghost use Rattle.aft_model.specs.ScanRun.{is_scan_run};
 ghost use Rattle.aft_model.specs.Sound.{Sound, first_offender};
 ghost use Rattle.aft_model.specs.Whole.{Whole};
 ghost use Rattle.aft_histories.specs.Entries.{u, x, y, first, second, record_of, marker_of, version_of, record_pair, version_pair, full_pair, done_pair};
 ghost use Rattle.aft_histories.specs.Facts.{in_doubt, tried_again, other, older_gets, whole_first, whole_both, pair, full_page, last_page};
-ghost use Rattle.aft_histories.specs.Illegal.{incarnation, holder_fenced};
+ghost use Rattle.aft_histories.specs.Illegal.{holder_fenced};
 ghost use Rattle.aft_histories.specs.Legal.{begun, stored, ordinary, settled, superseded, marked, retired};
 
 /// Which commits are committed, superseded, marked and whole.

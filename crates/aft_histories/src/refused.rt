@@ -8,11 +8,11 @@ ghost use Rattle.aft_model.specs.Claims.{holds};
 ghost use Rattle.aft_model.specs.DoorKnowledge.{knows_unused, knows_stored, knows_superseded, knows_record_gone, knows_versions_gone};
 ghost use Rattle.aft_model.specs.DoorRules.{may_come_up, may_claim, all_gave_up};
 ghost use Rattle.aft_model.specs.LegalDoor.{Legal, may_come};
-ghost use Rattle.aft_model.specs.Membership.{is_up};
+ghost use Rattle.aft_model.specs.Membership.{incarnation, is_up};
 ghost use Rattle.aft_model.specs.Opening.{may_open, may_read, knows_sound};
 ghost use Rattle.aft_histories.specs.Entries.{x, y, first, second, record_of, marker_of, version_of, record_pair, version_pair, full_pair, done_pair, opening_entry, opening_get, first_page, gets, puts, deletes, comes_up, claims};
 ghost use Rattle.aft_histories.specs.Legal.{empty_opening, read_opening, begun, ordinary, superseded, marked};
-ghost use Rattle.aft_histories.specs.Illegal.{Refused, incarnation, half_stored, claimed_after_another, claimed_again, asked_backwards, held, holder_fenced, half_given_up, newest_given_up, record_in_doubt, half_deleted, version_absent, records_shown};
+ghost use Rattle.aft_histories.specs.Illegal.{Refused, half_stored, claimed_after_another, claimed_again, asked_backwards, held, holder_fenced, half_given_up, newest_given_up, record_in_doubt, half_deleted, version_absent, records_shown};
 
 /// What a transaction may not put.
 #[tactic(auto, unfolding(crate::proofs::Stored::stored_forms))]

@@ -27,7 +27,7 @@ use Rattle.aft_model.specs.Membership.{Incarnation, same_incarnation}
 use Rattle.aft_model.specs.Readings.{record_name}
 use Rattle.aft_model.specs.Sound.{has_uuid}
 use Rattle.aft_model.proofs.Histories.{In, in_append, in_flat_map_snoc, any_found, any_from, followed_snoc}
-use Rattle.aft_model.proofs.Sights.{same_bytes, bytes_eq-refl, read-one, given, commits_at, Quiet, Seen, Wrote, effect}
+use Rattle.aft_model.proofs.Sights.{Effect, same_bytes, bytes_eq-refl, read-one, given, commits_at, Wrote, effect}
 
 -- ---- what a name may hold
 
@@ -179,14 +179,14 @@ module _ (uuid : List ℕ) where
     wrote_free w d a of = let turn = due w.node w.inc w.bytes w.answer w.is d a of in before.free (record { node = w.node; inc = w.inc }) turn.0 turn.1
 
     -- what an entry proves beside a commit that was proved before it
-    beside : (c d : Commit) → Quiet uuid may entry.act ⊎ (Seen uuid may entry.act ⊎ Wrote uuid may entry.act)
+    beside : (c d : Commit) → Effect uuid may entry.act
         → In c (committed history) → In d (given entry.act) → c.id.uuid ≡ uuid → d.id.uuid ≡ uuid → c ≡ d
     beside c d (inl quiet) in_c in_d of_c of_d = absurd (quiet.nothing d in_d of_d)
     beside c d (inr (inl s)) in_c in_d of_c of_d =
         sym (only_gives s.outcome c d (seen_has (Only c) s.outcome s.sight (before.kept c in_c of_c)) (s.from_it d in_d of_d) of_d)
     beside c d (inr (inr w)) in_c in_d of_c of_d = absurd ((wrote_free w d (w.from_it d in_d of_d) of_d).0 c in_c of_c)
 
-    together : (c d : Commit) → Quiet uuid may entry.act ⊎ (Seen uuid may entry.act ⊎ Wrote uuid may entry.act)
+    together : (c d : Commit) → Effect uuid may entry.act
         → In c (given entry.act) → In d (given entry.act) → c.id.uuid ≡ uuid → d.id.uuid ≡ uuid → c ≡ d
     together c d (inl quiet) in_c in_d of_c of_d = absurd (quiet.nothing d in_d of_d)
     together c d (inr (inl s)) in_c in_d of_c of_d = one_at s.outcome c d (s.from_it c in_c of_c) (s.from_it d in_d of_d)
@@ -199,7 +199,7 @@ module _ (uuid : List ℕ) where
         cases (inl one) = subst (Surely P) (sym one) (Surely-one P (Some w.bytes) holds)
         cases (inr more) = subst (Surely P) (sym more.0) (Surely-or_else P may (Some w.bytes) all holds)
 
-    kept_old : (c : Commit) → Quiet uuid may entry.act ⊎ (Seen uuid may entry.act ⊎ Wrote uuid may entry.act)
+    kept_old : (c : Commit) → Effect uuid may entry.act
         → In c (committed history) → c.id.uuid ≡ uuid → Surely (Only c) (after_act (record_name uuid) may entry.act)
     kept_old c (inl quiet) in_c of = subst (Surely (Only c)) (sym quiet.same) (before.kept c in_c of)
     kept_old c (inr (inl s)) in_c of =
@@ -207,7 +207,7 @@ module _ (uuid : List ℕ) where
     kept_old c (inr (inr w)) in_c of =
         Surely-wrote (Only c) w (before.kept c in_c of) (λ d a of_d. absurd ((wrote_free w d a of_d).0 c in_c of))
 
-    kept_new : (c : Commit) → Quiet uuid may entry.act ⊎ (Seen uuid may entry.act ⊎ Wrote uuid may entry.act)
+    kept_new : (c : Commit) → Effect uuid may entry.act
         → In c (given entry.act) → c.id.uuid ≡ uuid → Surely (Only c) (after_act (record_name uuid) may entry.act)
     kept_new c (inl quiet) in_c of = absurd (quiet.nothing c in_c of)
     kept_new c (inr (inl s)) in_c of = subst (Surely (Only c)) (sym s.after) (Surely-one (Only c) s.outcome (only_at s.outcome c (s.from_it c in_c of)))
@@ -218,7 +218,7 @@ module _ (uuid : List ℕ) where
         cases (inr more) = absurd (subst (In c) more.1 in_c)
 
     -- an incarnation that found no record before, and did nothing that changes it
-    still_free : (who : Incarnation) → Quiet uuid may entry.act ⊎ (Seen uuid may entry.act ⊎ Wrote uuid may entry.act)
+    still_free : (who : Incarnation) → Effect uuid may entry.act
         → IsTrue (is_held_by who (claimant uuid history)) → IsFalse (puts_record who uuid entry.act) → Surely Free may
         → ((d : Commit) → In d (given entry.act) → d.id.uuid ≡ uuid → ⊥) × Surely Free (after_act (record_name uuid) may entry.act)
     still_free who (inl quiet) held put_none all = (quiet.nothing, subst (Surely Free) (sym quiet.same) all)
@@ -235,7 +235,7 @@ module _ (uuid : List ℕ) where
         both_ways (puts_record who uuid entry.act) put_none puts in
         (λ d a of. free d (w.from_it d a of) of, Surely-wrote Free w all free)
 
-    free_after : (who : Incarnation) → Quiet uuid may entry.act ⊎ (Seen uuid may entry.act ⊎ Wrote uuid may entry.act)
+    free_after : (who : Incarnation) → Effect uuid may entry.act
         → IsTrue (is_clear who (history ++ entry ∷ [])) → IsTrue (is_held_by who (claimant uuid (history ++ entry ∷ [])))
         → Unrecorded (history ++ entry ∷ []) × Surely Free (after_act (record_name uuid) may entry.act)
     free_after who what clear held =

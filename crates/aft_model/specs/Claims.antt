@@ -6,7 +6,7 @@ use Rattle.aft_id.specs.declared.txn_id.TxnId.{TxnId}
 use Rattle.aft_model.specs.declared.door.DoorAct.{DoorAct}
 use Rattle.aft_model.specs.declared.door.DoorAct.TheVariants.{Claim, Release, GiveUp}
 use Rattle.aft_model.specs.declared.door.DoorEntry.{DoorEntry}
-use Rattle.aft_model.specs.Membership.{Incarnation, same_incarnation, is_up}
+use Rattle.aft_model.specs.Membership.{Incarnation, same_incarnation, is_up, incarnation}
 use Rattle.aft_model.specs.Readings.{same_id}
 
 -- whether it is this incarnation
@@ -16,8 +16,8 @@ is_held_by who (Some other) = same_incarnation who other
 
 -- whose claim of a UUID stands after an act: that of the last Claim, until its own Release
 abbrev pub claimant_after : List ℕ → Option Incarnation → DoorAct → Option Incarnation
-claimant_after uuid before (Claim claimed node inc) = if bytes_eq uuid claimed then Some (record { node = node; inc = inc }) else before
-claimant_after uuid before (Release released node inc) = if bytes_eq uuid released && is_held_by (record { node = node; inc = inc }) before then None else before
+claimant_after uuid before (Claim claimed node inc) = if bytes_eq uuid claimed then Some (incarnation node inc) else before
+claimant_after uuid before (Release released node inc) = if bytes_eq uuid released && is_held_by (incarnation node inc) before then None else before
 claimant_after uuid before act = before
 
 -- whose claim of a UUID stands after a history
@@ -39,7 +39,7 @@ holds who uuid history = is_held_by who (holder uuid history)
 
 -- whether an act is that incarnation's give-up of that id
 abbrev pub gives_up : Incarnation → TxnId → DoorAct → Bool
-gives_up who id (GiveUp node inc given) = same_incarnation who (record { node = node; inc = inc }) && same_id id given
+gives_up who id (GiveUp node inc given) = same_incarnation who (incarnation node inc) && same_id id given
 gives_up who id act = false
 
 -- whether an incarnation has given the commit of an id up

@@ -8,19 +8,19 @@ use Rattle.aft_model.specs.declared.door.DoorAct.TheVariants.{Call, Release}
 use Rattle.aft_model.specs.declared.door.DoorEntry.{DoorEntry}
 use Rattle.aft_model.specs.DoorKnowledge.{claims, finds_absent}
 use Rattle.aft_model.specs.History.{each_after, followed}
-use Rattle.aft_model.specs.Membership.{Incarnation, same_incarnation}
+use Rattle.aft_model.specs.Membership.{Incarnation, same_incarnation, incarnation}
 use Rattle.aft_model.specs.Readings.{record_name, records_in}
 use Rattle.aft_model.specs.Sound.{has_uuid}
 
 -- whether an act is this incarnation's release of this UUID
 abbrev pub releases : Incarnation → List ℕ → DoorAct → Bool
-releases who uuid (Release released node inc) = same_incarnation who (record { node = node; inc = inc }) && bytes_eq uuid released
+releases who uuid (Release released node inc) = same_incarnation who (incarnation node inc) && bytes_eq uuid released
 releases who uuid act = false
 
 -- whether an act is this incarnation's put of a record of this UUID, whatever was answered
 abbrev pub puts_record : Incarnation → List ℕ → DoorAct → Bool
 puts_record who uuid (Call node inc (Put name bytes) answer) =
-    same_incarnation who (record { node = node; inc = inc }) && list_any (has_uuid uuid) (records_in (record { name = name; bytes = bytes }))
+    same_incarnation who (incarnation node inc) && list_any (has_uuid uuid) (records_in (record { name = name; bytes = bytes }))
 puts_record who uuid act = false
 
 -- whether no entry passes a test
@@ -36,7 +36,7 @@ is_due who uuid history =
 -- whether an act, if it puts a record, is its caller's turn
 abbrev pub puts_when_due : List DoorEntry → DoorAct → Bool
 puts_when_due history (Call node inc (Put name bytes) answer) =
-    list_all (λ c. is_due (record { node = node; inc = inc }) c.id.uuid history) (records_in (record { name = name; bytes = bytes }))
+    list_all (λ c. is_due (incarnation node inc) c.id.uuid history) (records_in (record { name = name; bytes = bytes }))
 puts_when_due history act = true
 
 -- a history in which each record was put when it was its caller's turn, as a line that commits does

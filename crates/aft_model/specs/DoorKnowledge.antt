@@ -12,7 +12,7 @@ use Rattle.aft_model.specs.declared.door.DoorEntry.{DoorEntry}
 use Rattle.aft_model.specs.Committed.{committed, marked, marked_by, is_among, is_superseded}
 use Rattle.aft_model.specs.Evidence.{shows_absent}
 use Rattle.aft_model.specs.History.{followed}
-use Rattle.aft_model.specs.Membership.{Incarnation, same_incarnation}
+use Rattle.aft_model.specs.Membership.{Incarnation, same_incarnation, incarnation}
 use Rattle.aft_model.specs.Readings.{same_id, record_name, marker_name, version_name, is_version_at}
 
 -- whether an act is the end of the opening
@@ -26,17 +26,17 @@ is_open history = list_any (λ entry. opens entry.act) history
 
 -- whether an act is this incarnation's claim of this UUID
 abbrev pub claims : Incarnation → List ℕ → DoorAct → Bool
-claims who uuid (Claim claimed node inc) = same_incarnation who (record { node = node; inc = inc }) && bytes_eq uuid claimed
+claims who uuid (Claim claimed node inc) = same_incarnation who (incarnation node inc) && bytes_eq uuid claimed
 claims who uuid act = false
 
 -- whether an act is this incarnation's get of this name, answered absent
 abbrev pub finds_absent : Incarnation → List ℕ → DoorAct → Bool
-finds_absent who name (Call node inc (Get got) Absent) = same_incarnation who (record { node = node; inc = inc }) && bytes_eq name got
+finds_absent who name (Call node inc (Get got) Absent) = same_incarnation who (incarnation node inc) && bytes_eq name got
 finds_absent who name act = false
 
 -- whether an act is this incarnation's put of a version of this key and id, acknowledged
 abbrev pub stores_version : Incarnation → List ℕ → TxnId → DoorAct → Bool
-stores_version who key id (Call node inc (Put name bytes) Done) = same_incarnation who (record { node = node; inc = inc }) && is_version_at key id (record { name = name; bytes = bytes })
+stores_version who key id (Call node inc (Put name bytes) Done) = same_incarnation who (incarnation node inc) && is_version_at key id (record { name = name; bytes = bytes })
 stores_version who key id act = false
 
 -- whether an act is a delete of this name, acknowledged

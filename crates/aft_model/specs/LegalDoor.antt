@@ -13,7 +13,7 @@ use Rattle.aft_model.specs.declared.door.DoorEntry.{DoorEntry}
 use Rattle.aft_model.specs.DoorKnowledge.{is_open}
 use Rattle.aft_model.specs.DoorRules.{may_come_up, may_be_fenced, may_claim, may_release, may_call}
 use Rattle.aft_model.specs.History.{each_after}
-use Rattle.aft_model.specs.Membership.{is_up}
+use Rattle.aft_model.specs.Membership.{is_up, incarnation}
 use Rattle.aft_model.specs.Opening.{may_open}
 
 -- whether names ascend strictly
@@ -38,13 +38,13 @@ may_answer asked answer = false
 
 -- whether an act may come after a history at the open door: each by its rule, and by a caller that is up
 abbrev pub may_come : List DoorEntry → DoorAct → Bool
-may_come history (Call node inc asked answer) = is_up (record { node = node; inc = inc }) history && may_call history (record { node = node; inc = inc }) asked
+may_come history (Call node inc asked answer) = is_up (incarnation node inc) history && may_call history (incarnation node inc) asked
 may_come history Opened = false
-may_come history (Up node inc) = may_come_up history (record { node = node; inc = inc })
-may_come history (Fence node inc) = may_be_fenced history (record { node = node; inc = inc })
-may_come history (Claim uuid node inc) = is_up (record { node = node; inc = inc }) history && may_claim history uuid
-may_come history (Release uuid node inc) = is_up (record { node = node; inc = inc }) history && may_release history (record { node = node; inc = inc }) uuid
-may_come history (GiveUp node inc id) = is_up (record { node = node; inc = inc }) history
+may_come history (Up node inc) = may_come_up history (incarnation node inc)
+may_come history (Fence node inc) = may_be_fenced history (incarnation node inc)
+may_come history (Claim uuid node inc) = is_up (incarnation node inc) history && may_claim history uuid
+may_come history (Release uuid node inc) = is_up (incarnation node inc) history && may_release history (incarnation node inc) uuid
+may_come history (GiveUp node inc id) = is_up (incarnation node inc) history
 
 -- whether a call in an act was answered as a store may
 abbrev pub is_answered : DoorAct → Bool

@@ -10,9 +10,13 @@ pub record Incarnation : Type 0 where
   pub node : ℕ
   pub inc : ℕ
 
+-- an incarnation by its numbers
+abbrev pub incarnation : ℕ → ℕ → Incarnation
+incarnation node inc = record { node = node; inc = inc }
+
 -- the office, which is always up
 abbrev pub the_office : Incarnation
-the_office = record { node = 0; inc = 1 }
+the_office = incarnation 0 1
 
 -- whether two incarnations are the same
 abbrev pub same_incarnation : Incarnation → Incarnation → Bool
@@ -20,8 +24,8 @@ same_incarnation a b = a.node == b.node && a.inc == b.inc
 
 -- who is up after an act: an Up adds an incarnation, and its Fence takes it away
 abbrev pub up_after : List Incarnation → DoorAct → List Incarnation
-up_after before (Up node inc) = record { node = node; inc = inc } ∷ before
-up_after before (Fence node inc) = filter (λ other. not (same_incarnation (record { node = node; inc = inc }) other)) before
+up_after before (Up node inc) = incarnation node inc ∷ before
+up_after before (Fence node inc) = filter (λ other. not (same_incarnation (incarnation node inc) other)) before
 up_after before act = before
 
 -- who is up after a history
@@ -34,7 +38,7 @@ is_up who history = list_any (same_incarnation who) (ups history)
 
 -- the incarnation that an act fenced
 abbrev pub fenced_in : DoorAct → List Incarnation
-fenced_in (Fence node inc) = record { node = node; inc = inc } ∷ []
+fenced_in (Fence node inc) = incarnation node inc ∷ []
 fenced_in act = []
 
 -- the incarnations that a history fenced

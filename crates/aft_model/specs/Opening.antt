@@ -12,7 +12,7 @@ use Rattle.aft_model.specs.declared.door.DoorAct.{DoorAct}
 use Rattle.aft_model.specs.declared.door.DoorAct.TheVariants.{Call, Opened}
 use Rattle.aft_model.specs.declared.door.DoorEntry.{DoorEntry}
 use Rattle.aft_model.specs.Evidence.{shown_pairs}
-use Rattle.aft_model.specs.Membership.{the_office, same_incarnation}
+use Rattle.aft_model.specs.Membership.{the_office, same_incarnation, incarnation}
 use Rattle.aft_model.specs.Readings.{version_name}
 use Rattle.aft_model.specs.ScanRun.{ScanPage, same_line, scan_pages, page_limit, goes_on, is_scan_run}
 use Rattle.aft_model.specs.Sound.{records_prefix, markers_prefix, recorded, is_sound}
@@ -73,7 +73,7 @@ knows_sound history = all_scanned history && list_all (has_got history) (version
 
 -- whether an act may come before the door is open
 abbrev pub may_read : List DoorEntry → DoorAct → Bool
-may_read history (Call node inc asked answer) = same_incarnation the_office (record { node = node; inc = inc }) && not (has_failed history) && is_next_read history asked
+may_read history (Call node inc asked answer) = same_incarnation the_office (incarnation node inc) && not (has_failed history) && is_next_read history asked
 may_read history Opened = knows_sound history
 may_read history act = false
 

@@ -10,7 +10,7 @@ use Rattle.aft_model.specs.declared.caller.By.{By}
 use Rattle.aft_model.specs.declared.door.DoorAct.{DoorAct}
 use Rattle.aft_model.specs.declared.door.DoorAct.TheVariants.{Call}
 use Rattle.aft_model.specs.declared.door.DoorEntry.{DoorEntry}
-use Rattle.aft_model.specs.Membership.{Incarnation, same_incarnation}
+use Rattle.aft_model.specs.Membership.{Incarnation, same_incarnation, incarnation}
 
 -- the most pairs that a page of a run lists
 abbrev pub page_limit : ℕ
@@ -28,7 +28,7 @@ same_line a b = a.client == b.client && a.line == b.line
 -- the page that an act is, where it is one of this caller and this prefix
 abbrev pub page_in : Incarnation → List ℕ → DoorAct → List ScanPage
 page_in who prefix (Call node inc (Scan scanned after limit) (Page pairs)) =
-    if same_incarnation who (record { node = node; inc = inc }) && bytes_eq prefix scanned && limit == page_limit then record { after = after; listed = pairs } ∷ [] else []
+    if same_incarnation who (incarnation node inc) && bytes_eq prefix scanned && limit == page_limit then record { after = after; listed = pairs } ∷ [] else []
 page_in who prefix act = []
 
 -- the pages of a prefix that a history shows this caller, for this line
