@@ -15,7 +15,7 @@ use Rattle.aft_model.specs.declared.door.DoorAct.{DoorAct}
 use Rattle.aft_model.specs.declared.door.DoorAct.TheVariants.{Call}
 use Rattle.aft_model.specs.declared.door.DoorEntry.{DoorEntry}
 use Rattle.aft_model.specs.Claims.{is_held_by, claimant, holder}
-use Rattle.aft_model.specs.Committed.{Committed, committed}
+use Rattle.aft_model.specs.Committed.{has_uuid, Committed, committed}
 use Rattle.aft_model.specs.Course.{none_is, is_due, puts_record, puts_when_due, is_delete, KeepsCourse, DeletesNothing}
 use Rattle.aft_model.specs.DoorRules.{may_put_version, may_put_record, may_put_marker, may_put}
 use Rattle.aft_model.specs.Evidence.{shown}
@@ -26,7 +26,6 @@ use Rattle.aft_model.specs.MayHold.{may_hold}
 use Rattle.aft_model.specs.Membership.{Incarnation, is_up}
 use Rattle.aft_model.specs.Opening.{may_read}
 use Rattle.aft_model.specs.Readings.{same_id, same_commit, record_name, records_in, versions_in, markers_in}
-use Rattle.aft_model.specs.Sound.{has_uuid}
 use Rattle.aft_model.proofs.Histories.{In, any_found, all_at, each_after_snoc}
 use Rattle.aft_model.proofs.Honesty.{honest_about}
 use Rattle.aft_model.proofs.OneCommit.{Once, once_at_first, once_after, PutsWhenClear}

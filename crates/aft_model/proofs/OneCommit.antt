@@ -15,7 +15,7 @@ use Rattle.aft_model.specs.declared.door.DoorAct.{DoorAct}
 use Rattle.aft_model.specs.declared.door.DoorAct.TheVariants.{Call, Claim, Release}
 use Rattle.aft_model.specs.declared.door.DoorEntry.{DoorEntry}
 use Rattle.aft_model.specs.Claims.{is_held_by, claimant_after, claimant}
-use Rattle.aft_model.specs.Committed.{committed_by, committed}
+use Rattle.aft_model.specs.Committed.{has_uuid, committed_by, committed}
 use Rattle.aft_model.specs.Course.{puts_record, is_delete}
 use Rattle.aft_model.specs.DoorKnowledge.{finds_absent}
 use Rattle.aft_model.specs.Evidence.{shown, shown_in}
@@ -25,7 +25,6 @@ use Rattle.aft_model.specs.LegalDoor.{is_answered}
 use Rattle.aft_model.specs.MayHold.{MayHold, Unknown, OneOf, or_else, seen, after_act, may_hold}
 use Rattle.aft_model.specs.Membership.{Incarnation, same_incarnation}
 use Rattle.aft_model.specs.Readings.{record_name}
-use Rattle.aft_model.specs.Sound.{has_uuid}
 use Rattle.aft_model.proofs.Histories.{In, in_append, in_flat_map_snoc, any_found, any_from, followed_snoc}
 use Rattle.aft_model.proofs.Sights.{Effect, same_bytes, bytes_eq-refl, read-one, given, commits_at, Wrote, effect}
 

@@ -48,6 +48,10 @@ Committed c history = IsTrue (is_among c (committed history))
 abbrev pub Marked : Commit → List DoorEntry → Type 0
 Marked c history = IsTrue (is_among c (marked history))
 
+-- whether a commit has a UUID
+abbrev pub has_uuid : List ℕ → Commit → Bool
+has_uuid uuid c = bytes_eq uuid c.id.uuid
+
 -- whether a commit wrote a key
 abbrev pub wrote : List ℕ → Commit → Bool
 wrote key c = list_any (bytes_eq key) c.keys

@@ -6,11 +6,11 @@ use Rattle.aft_keeper.specs.declared.keeper.KeeperCall.TheVariants.{Put, Delete}
 use Rattle.aft_model.specs.declared.door.DoorAct.{DoorAct}
 use Rattle.aft_model.specs.declared.door.DoorAct.TheVariants.{Call, Release}
 use Rattle.aft_model.specs.declared.door.DoorEntry.{DoorEntry}
+use Rattle.aft_model.specs.Committed.{has_uuid}
 use Rattle.aft_model.specs.DoorKnowledge.{claims, finds_absent}
 use Rattle.aft_model.specs.History.{each_after, followed}
 use Rattle.aft_model.specs.Membership.{Incarnation, same_incarnation, incarnation}
 use Rattle.aft_model.specs.Readings.{record_name, records_in}
-use Rattle.aft_model.specs.Sound.{has_uuid}
 
 -- whether an act is this incarnation's release of this UUID
 abbrev pub releases : Incarnation → List ℕ → DoorAct → Bool

@@ -9,7 +9,7 @@ use Rattle.aft_records.specs.declared.stored.Commit.{Commit}
 use Rattle.aft_model.specs.declared.door.DoorAct.{DoorAct}
 use Rattle.aft_model.specs.declared.door.DoorAct.TheVariants.{Call, Opened, Claim}
 use Rattle.aft_model.specs.declared.door.DoorEntry.{DoorEntry}
-use Rattle.aft_model.specs.Committed.{committed, marked, marked_by, is_among, is_superseded}
+use Rattle.aft_model.specs.Committed.{has_uuid, committed, marked, marked_by, is_among, is_superseded}
 use Rattle.aft_model.specs.Evidence.{shows_absent}
 use Rattle.aft_model.specs.History.{followed}
 use Rattle.aft_model.specs.Membership.{Incarnation, same_incarnation, incarnation}
@@ -73,7 +73,7 @@ knows_superseded c history = is_among c (committed history) && is_superseded c (
 
 -- whether the record of a UUID may be deleted: a commit of it is marked
 abbrev pub knows_marked : List ℕ → List DoorEntry → Bool
-knows_marked uuid history = list_any (λ c. bytes_eq uuid c.id.uuid) (marked history)
+knows_marked uuid history = list_any (has_uuid uuid) (marked history)
 
 -- whether a commit is marked, and what follows that mark passes a test
 abbrev pub marked_then : (List DoorEntry → Bool) → Commit → List DoorEntry → Bool

@@ -15,7 +15,7 @@ use Rattle.aft_records.specs.Names.{name_of}
 use Rattle.aft_model.specs.declared.door.DoorEntry.{DoorEntry}
 use Rattle.aft_model.specs.Claims.{holder, holds, given_up}
 use Rattle.aft_model.specs.DoorKnowledge.{knows_unused, knows_stored, knows_superseded, knows_marked, knows_record_gone, knows_versions_gone}
-use Rattle.aft_model.specs.Membership.{Incarnation, the_office, same_incarnation, ups, fenced}
+use Rattle.aft_model.specs.Membership.{Incarnation, the_office, same_incarnation, ups, fenced, is_up}
 use Rattle.aft_model.specs.Readings.{records_in, markers_in, versions_in}
 
 -- an incarnation comes up: none of its node is up, and it is newer than each of its node that was fenced
@@ -24,7 +24,7 @@ may_come_up history who = list_all (λ other. not (other.node == who.node)) (ups
 
 -- an incarnation is fenced: it is up, and not the office
 abbrev pub may_be_fenced : List DoorEntry → Incarnation → Bool
-may_be_fenced history who = list_any (same_incarnation who) (ups history) && not (who.node == 0)
+may_be_fenced history who = is_up who history && not (who.node == 0)
 
 -- a claim: nobody holds the UUID
 abbrev pub may_claim : List DoorEntry → List ℕ → Bool

@@ -1,14 +1,13 @@
 -- Which pairs of a store are sound together, and which of them offends first.
 use Rattle.std.specs.Prelude.{ℕ, Bool, false, not, ◌&&◌, ◌||◌, List, ◌++◌, length, ◌==◌, map, filter, Option, Some, None, nat_eq, IsTrue, codes, if◌then◌else◌}
 use Rattle.std.specs.List.{list_any, flat_map, fold, starts_with}
-use Rattle.std.specs.Str.{bytes_eq}
 use Rattle.aft_keeper.specs.Contents.{name_lt}
 use Rattle.aft_keeper.specs.declared.keeper.Pair.{Pair}
 use Rattle.aft_records.specs.declared.stored.Commit.{Commit}
 use Rattle.aft_records.specs.declared.stored.Marker.{Marker}
 use Rattle.aft_records.specs.declared.stored.Marker.TheVariants.{Full, Done}
 use Rattle.aft_model.specs.Readings.{same_commit, version_name, records_in, markers_in, is_version_at}
-use Rattle.aft_model.specs.Committed.{is_superseded}
+use Rattle.aft_model.specs.Committed.{has_uuid, is_superseded}
 
 -- the prefixes of the names of records and of markers
 abbrev pub records_prefix : List ℕ
@@ -20,10 +19,6 @@ markers_prefix = codes "r/"
 -- the commits whose records are among the pairs
 abbrev pub recorded : List Pair → List Commit
 recorded pairs = flat_map records_in pairs
-
--- whether a commit has a UUID
-abbrev pub has_uuid : List ℕ → Commit → Bool
-has_uuid uuid c = bytes_eq uuid c.id.uuid
 
 -- whether a marker offends: a full one whose commit differs from the record of its UUID, or isn't superseded by the records, and a short one whose UUID has a record
 abbrev pub marker_offends : List Commit → Marker → Bool
