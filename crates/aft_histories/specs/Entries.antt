@@ -108,3 +108,7 @@ opening_get name answer = opening_entry (acts.Call 0 1 (Get name) answer)
 
 abbrev pub finds : Pair → DoorEntry
 finds pair = opening_get pair.name (answers.Found pair.bytes)
+
+-- a page of all records, that a node reads
+abbrev pub scans : ℕ → ℕ → List Pair → DoorEntry
+scans node inc pairs = asks node inc (Scan (codes "c/") [] 64) (answers.Page pairs)

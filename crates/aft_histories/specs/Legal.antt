@@ -3,7 +3,7 @@ use Rattle.std.specs.Prelude.{List, [], ◌∷◌, ◌++◌, codes}
 use Rattle.aft_keeper.specs.declared.keeper.KeeperAnswer.TheVariants.{Failed, Absent, Found, Done}
 use Rattle.aft_model.specs.declared.door.DoorAct.TheVariants.{Opened}
 use Rattle.aft_model.specs.declared.door.DoorEntry.{DoorEntry}
-use Rattle.aft_histories.specs.Entries.{x, y, first, second, record_of, marker_of, version_of, record_pair, version_pair, full_pair, done_pair, opening_entry, first_page, finds, puts, deletes, gets, comes_up, claims, releases, gives_up}
+use Rattle.aft_histories.specs.Entries.{x, y, first, second, record_of, marker_of, version_of, record_pair, version_pair, full_pair, done_pair, opening_entry, first_page, finds, puts, deletes, gets, comes_up, claims, releases, gives_up, scans}
 
 -- the opening of an empty store
 abbrev pub empty_opening : List DoorEntry
@@ -46,3 +46,22 @@ marked = superseded ++ gives_up 1 1 first.id ∷ puts 0 1 (full_pair first) Done
 -- its record and versions are deleted, and the short marker stays
 abbrev pub retired : List DoorEntry
 retired = marked ++ deletes (record_of 1) Done ∷ deletes (version_of x first.id) Done ∷ deletes (version_of y first.id) Done ∷ puts 0 1 (done_pair first.id) Done ∷ []
+
+-- the delete of the record failed, and the office found it absent
+abbrev pub record_absent : List DoorEntry
+record_absent = marked ++ deletes (record_of 1) Failed ∷ gets 0 1 (record_of 1) Absent ∷ deletes (version_of x first.id) Done ∷ []
+
+-- the opening of a store in which the first commit is marked, and not yet deleted
+abbrev pub marked_opening : List DoorEntry
+marked_opening = first_page (codes "c/") (record_pair first ∷ record_pair second ∷ []) ∷ first_page (codes "r/") (full_pair first ∷ [])
+    ∷ finds (version_pair x first.id) ∷ finds (version_pair y first.id) ∷ finds (version_pair x second.id) ∷ finds (version_pair y second.id) ∷ opening_entry Opened ∷ []
+
+-- and of one in which it is retired
+abbrev pub retired_opening : List DoorEntry
+retired_opening = first_page (codes "c/") (record_pair second ∷ []) ∷ first_page (codes "r/") (done_pair first.id ∷ [])
+    ∷ finds (version_pair x second.id) ∷ finds (version_pair y second.id) ∷ opening_entry Opened ∷ []
+
+-- two nodes come up and read the records, and each claims a UUID of its own
+abbrev pub two_nodes : List DoorEntry
+two_nodes = full_opening ++ comes_up 1 1 ∷ scans 1 1 (record_pair first ∷ []) ∷ comes_up 2 1 ∷ scans 2 1 (record_pair first ∷ [])
+    ∷ claims 3 1 1 ∷ claims 4 2 1 ∷ gets 2 1 (version_of x first.id) (Found (version_pair x first.id).bytes) ∷ releases 4 2 1 ∷ releases 3 1 1 ∷ []
