@@ -1,1 +1,17 @@
 pub mod ReadSet
+pub mod History
+pub mod Evidence
+pub mod MayHold
+pub mod Honest
+pub mod Readings
+pub mod Committed
+pub mod Membership
+pub mod Claims
+pub mod Sound
+pub mod Whole
+pub mod ScanRun
+pub mod DoorKnowledge
+pub mod Opening
+pub mod DoorRules
+pub mod LegalDoor
+pub mod Course

@@ -7,6 +7,7 @@
 mod caller;
 mod choice;
 mod door;
+mod laws;
 mod mail;
 mod node;
 mod office;
@@ -19,6 +20,7 @@ mod trace;
 pub use caller::{Attempt, By, Caller, Hold};
 pub use choice::{Blocked, Choice, Picked};
 pub use door::{DoorAct, DoorEntry};
+pub use laws::{facts_grow, honest_everywhere, id_commits_once, knowledge_stays};
 pub use mail::{MailAct, MailEntry};
 pub use node::{NodeAct, NodeEntry};
 pub use office::{OfficeAct, OfficeEntry};

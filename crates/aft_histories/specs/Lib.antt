@@ -1,0 +1,5 @@
+pub mod Entries
+pub mod Honest
+pub mod Legal
+pub mod Illegal
+pub mod Facts

@@ -1,0 +1,24 @@
+use Rattle.aft_model.proofs.Growth.{any_grows, unused_grows, stored_grows, knows_superseded_grows, knows_marked_grows, record_gone_grows, versions_gone_grows}
+use Rattle.aft_model.specs.DoorKnowledge.{opens}
+use Rattle.aft_model.proofs.laws.knowledge_stays.Goals as goal
+
+pub returns-clause-opened : goal.returns-clause-opened
+returns-clause-opened c = any_grows (λ entry. opens entry.act)
+
+pub returns-clause-unused : goal.returns-clause-unused
+returns-clause-unused c = unused_grows
+
+pub returns-clause-stored : goal.returns-clause-stored
+returns-clause-stored c = stored_grows
+
+pub returns-clause-superseded : goal.returns-clause-superseded
+returns-clause-superseded c = knows_superseded_grows
+
+pub returns-clause-marked : goal.returns-clause-marked
+returns-clause-marked c = knows_marked_grows
+
+pub returns-clause-record_gone : goal.returns-clause-record_gone
+returns-clause-record_gone c = record_gone_grows
+
+pub returns-clause-versions_gone : goal.returns-clause-versions_gone
+returns-clause-versions_gone c = versions_gone_grows

@@ -1,0 +1,65 @@
+-- Which commits a history has acknowledged or shown, and which of them it has marked as retired.
+use Rattle.std.specs.Prelude.{ℕ, Bool, ◌&&◌, List, [], ◌∷◌, ◌++◌, IsTrue}
+use Rattle.std.specs.List.{list_any, list_all, flat_map}
+use Rattle.std.specs.Str.{bytes_eq}
+use Rattle.aft_id.specs.TxnId.{id_lt}
+use Rattle.aft_keeper.specs.declared.keeper.Pair.{Pair}
+use Rattle.aft_records.specs.declared.stored.Commit.{Commit}
+use Rattle.aft_records.specs.declared.stored.Marker.{Marker}
+use Rattle.aft_records.specs.declared.stored.Marker.TheVariants.{Full, Done}
+use Rattle.aft_model.specs.declared.door.DoorEntry.{DoorEntry}
+use Rattle.aft_model.specs.Evidence.{shown_pairs, stored_pairs}
+use Rattle.aft_model.specs.Readings.{same_commit, records_in, markers_in}
+
+-- the pairs that an entry put, where it was acknowledged, or shows
+abbrev pub proven_pairs : DoorEntry → List Pair
+proven_pairs entry = stored_pairs entry ++ shown_pairs entry
+
+-- the commit of a full marker
+abbrev pub retired_by : Marker → List Commit
+retired_by (Full c) = c ∷ []
+retired_by (Done id) = []
+
+-- the commits whose records an entry put or shows
+abbrev pub committed_by : DoorEntry → List Commit
+committed_by entry = flat_map records_in (proven_pairs entry)
+
+-- the commits whose full markers an entry put or shows
+abbrev pub marked_by : DoorEntry → List Commit
+marked_by entry = flat_map (λ pair. flat_map retired_by (markers_in pair)) (proven_pairs entry)
+
+-- the commits of a history, one for each time that their record was put or shown
+abbrev pub committed : List DoorEntry → List Commit
+committed history = flat_map (λ entry. committed_by entry) history
+
+-- the marked commits of a history, one for each time that their full marker was put or shown
+abbrev pub marked : List DoorEntry → List Commit
+marked history = flat_map (λ entry. marked_by entry) history
+
+-- whether a commit is one of these
+abbrev pub is_among : Commit → List Commit → Bool
+is_among c commits = list_any (same_commit c) commits
+
+-- a commit that the history has acknowledged or shown
+abbrev pub Committed : Commit → List DoorEntry → Type 0
+Committed c history = IsTrue (is_among c (committed history))
+
+-- a commit whose full marker the history has acknowledged or shown
+abbrev pub Marked : Commit → List DoorEntry → Type 0
+Marked c history = IsTrue (is_among c (marked history))
+
+-- whether a commit has a UUID
+abbrev pub has_uuid : List ℕ → Commit → Bool
+has_uuid uuid c = bytes_eq uuid c.id.uuid
+
+-- whether a commit wrote a key
+abbrev pub wrote : List ℕ → Commit → Bool
+wrote key c = list_any (bytes_eq key) c.keys
+
+-- whether each key of a commit was written by a commit of the list with a greater id
+abbrev pub is_superseded : Commit → List Commit → Bool
+is_superseded c commits = list_all (λ key. list_any (λ d. wrote key d && id_lt c.id d.id) commits) c.keys
+
+-- a commit that the list supersedes
+abbrev pub Superseded : Commit → List Commit → Type 0
+Superseded c commits = IsTrue (is_superseded c commits)
