@@ -2,7 +2,8 @@
 
 ghost use Rattle.std.specs.Prelude.{◌≡◌, [], ◌∷◌, ◌++◌, codes, Some, None, IsTrue, IsFalse};
 ghost use Rattle.aft_model.specs.Claims.{holder, given_up};
-ghost use Rattle.aft_model.specs.Committed.{Committed, Marked, Superseded, committed};
+ghost use Rattle.aft_records.specs.Superseded.{Superseded};
+ghost use Rattle.aft_model.specs.Committed.{Committed, Marked, committed};
 ghost use Rattle.aft_model.specs.Course.{KeepsCourse};
 ghost use Rattle.aft_model.specs.Evidence.{covers};
 ghost use Rattle.aft_model.specs.Honest.{Honest};

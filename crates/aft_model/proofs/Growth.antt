@@ -7,7 +7,8 @@ use Rattle.std.proofs.lemmas.List.Concat.{flat_map-append}
 use Rattle.aft_id.specs.declared.txn_id.TxnId.{TxnId}
 use Rattle.aft_records.specs.declared.stored.Commit.{Commit}
 use Rattle.aft_model.specs.declared.door.DoorEntry.{DoorEntry}
-use Rattle.aft_model.specs.Committed.{committed, marked, is_among, is_superseded}
+use Rattle.aft_records.specs.Superseded.{is_superseded}
+use Rattle.aft_model.specs.Committed.{committed, marked, is_among}
 use Rattle.aft_model.specs.DoorKnowledge.{found_unused, has_stored, knows_unused, knows_stored, knows_superseded, knows_marked, marked_then, shows_gone, knows_record_gone, has_deleted, knows_versions_gone}
 use Rattle.aft_model.specs.History.{followed}
 use Rattle.aft_model.specs.Membership.{Incarnation}

@@ -1,8 +1,7 @@
 -- Which commits a history has acknowledged or shown, and which of them it has marked as retired.
-use Rattle.std.specs.Prelude.{ℕ, Bool, ◌&&◌, List, [], ◌∷◌, ◌++◌, IsTrue}
-use Rattle.std.specs.List.{list_any, list_all, flat_map}
+use Rattle.std.specs.Prelude.{ℕ, Bool, List, [], ◌∷◌, ◌++◌, IsTrue}
+use Rattle.std.specs.List.{list_any, flat_map}
 use Rattle.std.specs.Str.{bytes_eq}
-use Rattle.aft_id.specs.TxnId.{id_lt}
 use Rattle.aft_keeper.specs.declared.keeper.Pair.{Pair}
 use Rattle.aft_records.specs.declared.stored.Commit.{Commit}
 use Rattle.aft_records.specs.declared.stored.Marker.{Marker}
@@ -51,15 +50,3 @@ Marked c history = IsTrue (is_among c (marked history))
 -- whether a commit has a UUID
 abbrev pub has_uuid : List ℕ → Commit → Bool
 has_uuid uuid c = bytes_eq uuid c.id.uuid
-
--- whether a commit wrote a key
-abbrev pub wrote : List ℕ → Commit → Bool
-wrote key c = list_any (bytes_eq key) c.keys
-
--- whether each key of a commit was written by a commit of the list with a greater id
-abbrev pub is_superseded : Commit → List Commit → Bool
-is_superseded c commits = list_all (λ key. list_any (λ d. wrote key d && id_lt c.id d.id) commits) c.keys
-
--- a commit that the list supersedes
-abbrev pub Superseded : Commit → List Commit → Type 0
-Superseded c commits = IsTrue (is_superseded c commits)

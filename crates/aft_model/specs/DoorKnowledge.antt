@@ -9,7 +9,8 @@ use Rattle.aft_records.specs.declared.stored.Commit.{Commit}
 use Rattle.aft_model.specs.declared.door.DoorAct.{DoorAct}
 use Rattle.aft_model.specs.declared.door.DoorAct.TheVariants.{Call, Opened, Claim}
 use Rattle.aft_model.specs.declared.door.DoorEntry.{DoorEntry}
-use Rattle.aft_model.specs.Committed.{has_uuid, committed, marked, marked_by, is_among, is_superseded}
+use Rattle.aft_records.specs.Superseded.{is_superseded}
+use Rattle.aft_model.specs.Committed.{has_uuid, committed, marked, marked_by, is_among}
 use Rattle.aft_model.specs.Evidence.{shows_absent}
 use Rattle.aft_model.specs.History.{followed}
 use Rattle.aft_model.specs.Membership.{Incarnation, same_incarnation, incarnation}

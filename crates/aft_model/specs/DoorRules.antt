@@ -11,7 +11,7 @@ use Rattle.aft_records.specs.declared.stored.Commit.{Commit}
 use Rattle.aft_records.specs.declared.stored.Version.{Version}
 use Rattle.aft_records.specs.declared.stored.Marker.{Marker}
 use Rattle.aft_records.specs.declared.stored.Marker.TheVariants.{Full, Done}
-use Rattle.aft_records.specs.Names.{name_of}
+use Rattle.aft_records.specs.NameReading.{name_of}
 use Rattle.aft_model.specs.declared.door.DoorEntry.{DoorEntry}
 use Rattle.aft_model.specs.Claims.{holder, holds, given_up}
 use Rattle.aft_model.specs.DoorKnowledge.{knows_unused, knows_stored, knows_superseded, knows_marked, knows_record_gone, knows_versions_gone}

@@ -7,7 +7,8 @@ use Rattle.aft_records.specs.declared.stored.Commit.{Commit}
 use Rattle.aft_records.specs.declared.stored.Marker.{Marker}
 use Rattle.aft_records.specs.declared.stored.Marker.TheVariants.{Full, Done}
 use Rattle.aft_model.specs.Readings.{same_commit, version_name, records_in, markers_in, is_version_at}
-use Rattle.aft_model.specs.Committed.{has_uuid, is_superseded}
+use Rattle.aft_records.specs.Superseded.{is_superseded}
+use Rattle.aft_model.specs.Committed.{has_uuid}
 
 -- the prefixes of the names of records and of markers
 abbrev pub records_prefix : List ℕ

@@ -4,7 +4,8 @@ ghost use Rattle.std.specs.Prelude.{◌≡◌, ◌++◌, ℕ, List, [], ◌∷�
 ghost use Rattle.aft_id.specs.declared.txn_id.TxnId.{TxnId};
 ghost use Rattle.aft_records.specs.declared.stored.Commit.{Commit};
 ghost use Rattle.aft_model.specs.declared.door.DoorEntry.{DoorEntry};
-ghost use Rattle.aft_model.specs.Committed.{Committed, Marked, Superseded, committed};
+ghost use Rattle.aft_records.specs.Superseded.{Superseded};
+ghost use Rattle.aft_model.specs.Committed.{Committed, Marked, committed};
 ghost use Rattle.aft_model.specs.DoorKnowledge.{is_open, knows_unused, knows_stored, knows_superseded, knows_marked, knows_record_gone, knows_versions_gone};
 ghost use Rattle.aft_model.specs.Membership.{Incarnation};
 ghost use Rattle.aft_model.specs.Course.{KeepsCourse, DeletesNothing, puts_record};
