@@ -15,7 +15,7 @@ pub struct Commit {
 }
 
 /// What a transaction wrote under one key.
-#[derive(Debug, Drop)]
+#[derive(Debug, PartialEq, Eq, Drop)]
 pub struct Version {
     /// The transaction that wrote it.
     pub id: TxnId,

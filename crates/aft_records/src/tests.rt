@@ -22,12 +22,16 @@ fn an_id() -> TxnId {
     }
 }
 
-fn commit_of(alloc: Global, names: &[&[u8]]) -> Result<Commit, Fail> {
+fn keys_of(alloc: Global, names: &[&[u8]]) -> Result<List<Key>, Fail> {
     let mut keys = Vec::new(alloc);
     for name in names {
         keys.push(Key::new(alloc, name)?)?;
     }
-    let keys = Keys::new(List::from_vec(keys))?;
+    Ok(List::from_vec(keys))
+}
+
+fn commit_of(alloc: Global, names: &[&[u8]]) -> Result<Commit, Fail> {
+    let keys = Keys::new(keys_of(alloc, names)?)?;
     Ok(Commit { id: an_id(), keys })
 }
 
@@ -54,10 +58,29 @@ fn versions(rt: HostRuntime) -> Result<(), Fail> {
     let alloc = rt.alloc();
     let id = "41563100000000000003e800000000000000000000000000000001";
     let bytes = unhex(alloc, id, "0000000178000000026869")?;
-    let version = Version::decode(alloc, &bytes)?;
-    assert!(rt; version.id == an_id());
-    assert!(rt; version.key.bytes() == b"x".as_slice());
-    assert!(rt; version.value.as_slice() == b"hi".as_slice());
+    let version = Version {
+        id: an_id(),
+        key: Key::new(alloc, b"x")?,
+        value: Bytes::from_vec(Vec::from_slice(alloc, b"hi")?),
+    };
+    let read = Version::decode(alloc, &bytes)?;
+    assert!(rt; read == version);
+    let written = read.encode(alloc)?;
+    assert!(rt; written.as_slice() == bytes.as_slice());
+    Ok(())
+}
+
+#[test]
+fn write_sets(rt: HostRuntime) -> Result<(), Fail> {
+    let alloc = rt.alloc();
+    assert!(rt; Keys::new(keys_of(alloc, &[])?).err() == Some(RecordFault::BadKeys));
+    let twice = Keys::new(keys_of(alloc, &[b"x", b"x"])?).err();
+    assert!(rt; twice == Some(RecordFault::Field(FieldFault::Unsorted { field: 0 })));
+    let mut many = Vec::new(alloc);
+    for b in b'A'..=b'a' {
+        many.push(Key::new(alloc, &[b])?)?;
+    }
+    assert!(rt; Keys::new(List::from_vec(many)).err() == Some(RecordFault::BadKeys));
     Ok(())
 }
 
