@@ -8,6 +8,8 @@ mod case;
 #[cfg(test)]
 mod edge;
 mod planted;
+#[cfg(test)]
+mod reads;
 mod runs;
 
 use crate::case::Case;
