@@ -15,3 +15,4 @@ pub mod Opening
 pub mod DoorRules
 pub mod LegalDoor
 pub mod Course
+pub mod Asked

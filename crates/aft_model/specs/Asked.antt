@@ -1,0 +1,25 @@
+-- What a run is asked to do, and what came of it.
+use Rattle.std.specs.Prelude.{ℕ, List, Option}
+use Rattle.aft_model.specs.declared.mail.MailEntry.{MailEntry}
+use Rattle.aft_model.specs.declared.script.Script.{Script}
+use Rattle.aft_model.specs.declared.script.Order.{Order}
+use Rattle.aft_model.specs.declared.trace.Trace.{Trace}
+
+-- the settings of a run: how many nodes, how many values a node's cache holds, how many messages a mailbox, and how many background rounds go beside the script
+pub record Settings : Type 0 where
+  pub nodes : ℕ
+  pub cache : ℕ
+  pub mailbox : ℕ
+  pub rounds : ℕ
+
+-- what a run is asked: a script, the order of its steps or, with threads, none, the settings, and the time of the clock, if it tells one
+pub record Asked : Type 0 where
+  pub script : Script
+  pub order : Option Order
+  pub settings : Settings
+  pub clock : Option ℕ
+
+-- what came of a run: the histories of the door, of the nodes and of the office, and that of box b at index b
+pub record Ran : Type 0 where
+  pub trace : Trace
+  pub mail : List (List MailEntry)
