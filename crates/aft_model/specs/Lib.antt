@@ -16,3 +16,8 @@ pub mod DoorRules
 pub mod LegalDoor
 pub mod Course
 pub mod Asked
+pub mod NodeState
+pub mod Attempts
+pub mod Known
+pub mod Cache
+pub mod Choice
