@@ -1,5 +1,5 @@
 -- The commits that a node knows while it serves, and those that it holds on to.
-use Rattle.std.specs.Prelude.{ℕ, ◌&&◌, ◌||◌, Bool, false, not, List, [], ◌∷◌, ◌++◌, filter, map, Option, Some, None, if◌then◌else◌}
+use Rattle.std.specs.Prelude.{ℕ, ◌&&◌, ◌||◌, Bool, true, false, not, List, [], ◌∷◌, ◌++◌, filter, map, Option, Some, None, if◌then◌else◌}
 use Rattle.std.specs.List.{list_any, fold}
 use Rattle.aft_id.specs.TxnId.{id_lt}
 use Rattle.aft_id.specs.declared.txn_id.TxnId.{TxnId}
@@ -64,6 +64,12 @@ versions key commits = map (λ c. c.id) (filter (wrote key) commits)
 -- the greatest id of a key
 abbrev pub latest : List ℕ → List Commit → Option TxnId
 latest key commits = greatest (versions key commits)
+
+-- whether one of two greatest ids isn't above the other; none is below all
+abbrev pub latest_le : Option TxnId → Option TxnId → Bool
+latest_le None b = true
+latest_le (Some a) None = false
+latest_le (Some a) (Some b) = not (id_lt b a)
 
 -- whether an attempt has fixed a commit of this id
 abbrev pub is_fixed_at : TxnId → Option Commit → Bool

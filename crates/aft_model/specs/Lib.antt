@@ -21,3 +21,7 @@ pub mod Attempts
 pub mod Known
 pub mod Cache
 pub mod Choice
+pub mod Replies
+pub mod NodeRules
+pub mod LegalNode
+pub mod AtomicReads
