@@ -25,3 +25,5 @@ pub mod Replies
 pub mod NodeRules
 pub mod LegalNode
 pub mod AtomicReads
+pub mod NodeSights
+pub mod Turns
