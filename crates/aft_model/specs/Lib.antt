@@ -27,3 +27,9 @@ pub mod LegalNode
 pub mod AtomicReads
 pub mod NodeSights
 pub mod Turns
+pub mod ScanCourse
+pub mod CourseWords
+pub mod BeginCourse
+pub mod CommitCourse
+pub mod CollectCourse
+pub mod LineCourse
