@@ -16,3 +16,8 @@ pub mod DoorRules
 pub mod LegalDoor
 pub mod Course
 pub mod Asked
+pub mod Replies
+pub mod ReplyText
+pub mod FinishedText
+pub mod Boxes
+pub mod Office
