@@ -41,6 +41,6 @@ used_again = emptied ++ takes [] ∷ posts (second.id ∷ []) 1 ∷ []
 abbrev pub has_both : List MailEntry
 has_both = posts (first.id ∷ []) 1 ∷ posts [] 0 ∷ posts (second.id ∷ []) 1 ∷ []
 
--- the history is legal, its box may not have the entry, and with it the history isn't legal
-abbrev pub NotEntered : ℕ → List MailEntry → MailEntry → Type 0
-NotEntered size before next = LegalBox size before × IsFalse (may_enter size (box size before) next.act) × IsFalse (is_legal_box size (before ++ next ∷ []))
+-- the history is legal, its box refuses the entry, and with it the history isn't legal
+abbrev pub BoxRefuses : ℕ → List MailEntry → MailEntry → Type 0
+BoxRefuses size before next = LegalBox size before × IsFalse (may_enter size (box size before) next.act) × IsFalse (is_legal_box size (before ++ next ∷ []))

@@ -13,7 +13,7 @@ use Rattle.aft_model.specs.declared.office.OfficeEntry.{OfficeEntry}
 use Rattle.aft_model.specs.declared.reply.Reply.{Reply}
 use Rattle.aft_model.specs.declared.reply.Reply.TheVariants as reply
 use Rattle.aft_model.specs.declared.reply.Verdict.TheVariants.{Retired}
-use Rattle.aft_model.specs.Office.{LegalOffice, is_legal_office}
+use Rattle.aft_model.specs.Office.{LegalOffice, is_legal_office, is_backed, heard}
 use Rattle.aft_histories.specs.Entries.{x, y, id_of, first, second, record_of, marker_of, record_pair, version_pair, puts, gets, comes_up, claims, releases}
 use Rattle.aft_histories.specs.Facts.{full_page}
 use Rattle.aft_histories.specs.Legal.{full_opening}
@@ -56,6 +56,10 @@ half_scanned = three_committed ++ page_for manager [] full_page.listed ∷ []
 abbrev pub scanned_by_two : List DoorEntry
 scanned_by_two = half_scanned ++ page_for another (record_of 64) [] ∷ []
 
+-- a node was shown all records for the manager's line
+abbrev pub scanned_by_node : List DoorEntry
+scanned_by_node = three_committed ++ record { by = manager; act = acts.Call 1 1 (Scan (codes "c/") [] 64) (Page (record_pair first ∷ record_pair second ∷ record_pair third ∷ [])) } ∷ []
+
 -- ---- the office
 
 -- an entry of a line that has seen so much of the door's history, and answers or doesn't
@@ -92,5 +96,10 @@ collected = collects ++ does manager Collected (Some (reply.Collected (judged fi
     ∷ does another Collecting None ∷ does another Collected (Some reply.StoreFault) ∷ []
 
 -- the history is legal, a rule refuses what should follow it, and with it the history isn't legal
-abbrev pub NotAtOffice : Bool → List DoorEntry → List OfficeEntry → OfficeEntry → Type 0
-NotAtOffice rule door before next = LegalOffice door before × IsFalse rule × IsFalse (is_legal_office door (before ++ next ∷ []))
+abbrev pub OfficeRefuses : Bool → List DoorEntry → List OfficeEntry → OfficeEntry → Type 0
+OfficeRefuses rule door before next = LegalOffice door before × IsFalse rule × IsFalse (is_legal_office door (before ++ next ∷ []))
+
+-- the same of a manager's round, which heard of the first commits and missed the others: what it has seen of the door doesn't back it
+abbrev pub RoundRefused : List DoorEntry → List OfficeEntry → List Commit → List Commit → Type 0
+RoundRefused door before heard_of missed =
+    OfficeRefuses (is_backed door (heard door before) manager (Round heard_of missed)) door before (sees (length door) manager (Round heard_of missed) None)

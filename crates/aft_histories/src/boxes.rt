@@ -4,7 +4,7 @@ ghost use Rattle.std.specs.Prelude.{◌≡◌, [], ◌∷◌};
 ghost use Rattle.aft_model.specs.declared.mail.MailAct.TheVariants.{Post, Take};
 ghost use Rattle.aft_model.specs.Boxes.{box, refused_of, LegalBox};
 ghost use Rattle.aft_histories.specs.Entries.{first, second};
-ghost use Rattle.aft_histories.specs.Boxes.{posts, takes, both, one_of_two, full, emptied, used_again, has_both, NotEntered};
+ghost use Rattle.aft_histories.specs.Boxes.{posts, takes, both, one_of_two, full, emptied, used_again, has_both, BoxRefuses};
 
 /// A box takes as many messages as it has room for, and a take empties it.
 pub fn legal_boxes()
@@ -25,14 +25,14 @@ pub fn legal_boxes()
 
 /// What may not come at a box.
 pub fn boxes_refused()
-    ensures left_behind { NotEntered 2 has_both (takes (first.id ∷ [])) }
-    ensures lost { NotEntered 2 has_both (takes (second.id ∷ [])) }
-    ensures invented { NotEntered 1 emptied (takes (first.id ∷ [])) }
-    ensures other { NotEntered 1 full (takes (second.id ∷ [])) }
-    ensures one_more { NotEntered 1 full (takes both) }
-    ensures other_order { NotEntered 2 has_both (takes (second.id ∷ first.id ∷ [])) }
-    ensures fewer { NotEntered 2 [] (posts both 1) }
-    ensures more { NotEntered 1 [] (posts both 2) }
-    ensures more_than_posted { NotEntered 2 [] (posts (first.id ∷ []) 2) }
-    ensures past_its_size { NotEntered 1 full (posts (second.id ∷ []) 1) }
+    ensures left_behind { BoxRefuses 2 has_both (takes (first.id ∷ [])) }
+    ensures lost { BoxRefuses 2 has_both (takes (second.id ∷ [])) }
+    ensures invented { BoxRefuses 1 emptied (takes (first.id ∷ [])) }
+    ensures other { BoxRefuses 1 full (takes (second.id ∷ [])) }
+    ensures one_more { BoxRefuses 1 full (takes both) }
+    ensures other_order { BoxRefuses 2 has_both (takes (second.id ∷ first.id ∷ [])) }
+    ensures fewer { BoxRefuses 2 [] (posts both 1) }
+    ensures more { BoxRefuses 1 [] (posts both 2) }
+    ensures more_than_posted { BoxRefuses 2 [] (posts (first.id ∷ []) 2) }
+    ensures past_its_size { BoxRefuses 1 full (posts (second.id ∷ []) 1) }
 {}

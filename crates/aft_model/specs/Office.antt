@@ -125,24 +125,25 @@ commits_of run = recorded (flat_map (λ page. page.listed) run)
 abbrev pub unheard : List TxnId → List Commit → List Commit
 unheard known commits = filter (λ c. not (list_any (same_id c.id) known)) commits
 
--- whether an act fits what was seen of the door, and what was heard of before: a round heard of committed commits, its line's run is whole, and it missed just the commits of the run that are still unheard of
-abbrev pub fits : List DoorEntry → List TxnId → By → OfficeAct → Bool
-fits seen known by (Round heard missed) =
+-- whether an act is backed by what was seen of the door, and by what was heard of before: a round heard of committed commits, its line's run is whole, and it missed just the commits of the run that are still unheard of
+abbrev pub is_backed : List DoorEntry → List TxnId → By → OfficeAct → Bool
+is_backed seen known by (Round heard missed) =
     list_all (λ c. is_among c (committed seen)) heard
     && is_scan_run (records_run by seen)
     && pointwise same_commit missed (unheard (known ++ ids_of heard) (commits_of (records_run by seen)))
-fits seen known by act = true
+is_backed seen known by act = true
 
--- whether an entry fits the part of the door's history up to its front
-abbrev pub may_stand : List DoorEntry → List OfficeEntry → OfficeEntry → Bool
-may_stand door office entry = nat_le entry.front (length door) && fits (take entry.front door) (heard door office) entry.by entry.act
+-- whether an entry may come after a history beside the door's, of which its turn had seen as much as its front says
+abbrev pub may_come_beside : List DoorEntry → List OfficeEntry → OfficeEntry → Bool
+may_come_beside door office entry = nat_le entry.front (length door) && is_backed (take entry.front door) (heard door office) entry.by entry.act
 
 -- whether the office's list keeps all that is asked of it beside the door's history
 abbrev pub is_legal_beside : List DoorEntry → List OfficeEntry → Bool
-is_legal_beside door office = each_after (may_stand door) [] office
+is_legal_beside door office = each_after (may_come_beside door) [] office
 
 -- ---- both
 
+-- whether the office's list keeps both
 abbrev pub is_legal_office : List DoorEntry → List OfficeEntry → Bool
 is_legal_office door office = is_legal_alone office && is_legal_beside door office
 
