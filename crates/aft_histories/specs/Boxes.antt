@@ -1,5 +1,5 @@
 -- Histories of a mailbox.
-use Rattle.std.specs.Prelude.{ℕ, Bool, List, [], ◌∷◌, ◌++◌, IsFalse}
+use Rattle.std.specs.Prelude.{ℕ, List, [], ◌∷◌, ◌++◌, IsFalse}
 use Rattle.aft_id.specs.declared.txn_id.TxnId.{TxnId}
 use Rattle.aft_model.specs.declared.mail.MailAct.{MailAct}
 use Rattle.aft_model.specs.declared.mail.MailAct.TheVariants.{Post, Take}

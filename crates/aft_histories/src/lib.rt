@@ -16,4 +16,6 @@ pub use facts::{commits, courses, door, pages, stores};
 pub use honesty::{dishonest, honest};
 pub use office::{collections_refused, legal_office, office_facts, posts_refused, rounds_refused};
 pub use refused::{callers_refused, collection_refused, openings_refused, puts_refused};
-pub use replies::{finished_texts, replies_told_apart, round_texts, transaction_texts, value_texts};
+pub use replies::{
+    finished_texts, replies_told_apart, round_texts, transaction_texts, value_texts,
+};

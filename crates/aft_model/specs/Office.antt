@@ -1,5 +1,5 @@
 -- Which histories the office may have: the rounds of the fault manager, and the collections.
-use Rattle.std.specs.Prelude.{ℕ, Bool, true, false, not, nat_le, ◌&&◌, List, [], ◌∷◌, ◌++◌, length, take, map, filter, Option, Some, None, is_some, is_none, IsTrue, if◌then◌else◌}
+use Rattle.std.specs.Prelude.{Bool, true, false, not, nat_le, ◌&&◌, List, [], ◌∷◌, ◌++◌, length, take, map, filter, Option, Some, None, is_some, is_none, IsTrue, if◌then◌else◌}
 use Rattle.std.specs.List.{list_any, list_all, flat_map, fold, last_or, before_first}
 use Rattle.std.specs.Cmp.Lexicographic.{pointwise}
 use Rattle.aft_id.specs.declared.txn_id.TxnId.{TxnId}
