@@ -33,3 +33,7 @@ pub mod BeginCourse
 pub mod CommitCourse
 pub mod CollectCourse
 pub mod LineCourse
+pub mod ReplyText
+pub mod FinishedText
+pub mod Boxes
+pub mod Office
