@@ -37,3 +37,9 @@ pub mod ReplyText
 pub mod FinishedText
 pub mod Boxes
 pub mod Office
+pub mod LinePosts
+pub mod Lines
+pub mod OpeningCourse
+pub mod LegalTrace
+pub mod RefusedTrace
+pub mod Headline

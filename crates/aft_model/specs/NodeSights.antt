@@ -1,5 +1,5 @@
 -- What the entries of a node's history ask of the door's history, and of what their line was shown there. Each looks at the part that its front has seen.
-use Rattle.std.specs.Prelude.{ℕ, ◌==◌, ◌&&◌, Bool, true, false, List, [], ◌∷◌, take, drop, filter, Option, Some, None, IsTrue, if◌then◌else◌}
+use Rattle.std.specs.Prelude.{ℕ, nat_le, ◌==◌, ◌&&◌, Bool, true, false, List, [], ◌∷◌, length, take, drop, filter, Option, Some, None, IsTrue, if◌then◌else◌}
 use Rattle.std.specs.Cmp.Lexicographic.{pointwise}
 use Rattle.std.specs.List.{list_any, list_all, flat_map}
 use Rattle.std.specs.Str.{bytes_eq}
@@ -122,9 +122,13 @@ has_seen node seen by before (Learn commits) answer = list_all (λ c. is_among c
 has_seen node seen by before (GiveUp id) answer = is_given_up_rightly id (known before) seen
 has_seen node seen by before act answer = true
 
+-- whether an entry has seen at the door what it asks, and no more of it than there is
+abbrev pub may_come_at : ℕ → List DoorEntry → List NodeEntry → NodeEntry → Bool
+may_come_at node door before entry = nat_le entry.front (length door) && has_seen node (take entry.front door) entry.by before entry.act entry.answer
+
 -- whether each entry of a node's history has seen at the door what it asks
 abbrev pub is_seen_node : ℕ → List DoorEntry → List NodeEntry → Bool
-is_seen_node node door history = each_after (λ before entry. has_seen node (take entry.front door) entry.by before entry.act entry.answer) [] history
+is_seen_node node door history = each_after (may_come_at node door) [] history
 
 -- a history of a node that has seen at the door what it asks
 abbrev pub SeenNode : ℕ → List DoorEntry → List NodeEntry → Type 0
