@@ -14,6 +14,7 @@ use Rattle.aft_model.specs.declared.node.NodeAct.{NodeAct}
 use Rattle.aft_model.specs.declared.node.NodeAct.TheVariants.{Nothing, Start, Settle, Leave, Stored, Doubt, End}
 use Rattle.aft_model.specs.declared.node.NodeEntry.{NodeEntry}
 use Rattle.aft_model.specs.declared.reply.Reply.{Reply}
+use Rattle.aft_model.specs.declared.reply.Reply.TheVariants as replies
 use Rattle.aft_model.specs.Attempts.{Write, same_attempt, attempt_state, fixed_commit, buffer}
 use Rattle.aft_model.specs.BeginCourse.{caller_of, any_answer}
 use Rattle.aft_model.specs.CourseWords.{is_over, ends_at_node, ends_fenced, tells_down, tells_refused, is_cut_off, finds_record, finds_nothing}
@@ -29,10 +30,26 @@ pub record Storing : Type 0 where
   pub commit : Commit
   pub writes : List Write
 
--- an attempt ends, or the node doesn't serve it any more
-abbrev pub ends : Attempt → NodeAct → Option Reply → Bool
-ends a (End b) answer = same_attempt a b
-ends a act answer = is_cut_off act answer
+-- an attempt ends with an answer that passes a test, or the node doesn't serve it any more
+abbrev pub ends : Attempt → (Option Reply → Bool) → NodeAct → Option Reply → Bool
+ends a test (End b) answer = same_attempt a b && test answer
+ends a test act answer = is_cut_off act answer
+
+-- whether a reply tells that a transaction is committed
+abbrev pub tells_committed : Option Reply → Bool
+tells_committed (Some (replies.Committed id)) = true
+tells_committed answer = false
+
+-- whether a reply tells that a transaction is aborted
+abbrev pub tells_aborted : Option Reply → Bool
+tells_aborted (Some replies.Aborted) = true
+tells_aborted answer = false
+
+-- whether a reply tells that a transaction has ended, with nothing to store: of an abort that it is aborted
+abbrev pub tells_left : Bool → Option Reply → Bool
+tells_left true answer = tells_aborted answer
+tells_left false (Some replies.Ended) = true
+tells_left false answer = false
 
 -- an attempt is left in doubt with an answer that passes a test, or the node doesn't serve it any more
 abbrev pub doubts : Attempt → (Option Reply → Bool) → NodeAct → Option Reply → Bool
@@ -63,7 +80,7 @@ is_acknowledged answer = false
 -- behind the stored commit: the release and the end. A release makes no entry only where the incarnation was fenced, and then the attempt is left in doubt
 abbrev pub release_stored : Storing → List DoorEntry → List Turn → Bool
 release_stored storing door (AtDoor place (Release uuid node inc) ∷ line) =
-    is_release_of storing.attempt storing.commit.id.uuid uuid node inc && ends_at_node storing.attempt.node (ends storing.attempt) line
+    is_release_of storing.attempt storing.commit.id.uuid uuid node inc && ends_at_node storing.attempt.node (ends storing.attempt tells_committed) line
 release_stored storing door line = ends_at_node storing.attempt.node (doubts storing.attempt tells_down) line && ends_fenced (caller_of storing.attempt) door line
 
 -- whether an act is the storing of this commit, and the release follows
@@ -101,7 +118,7 @@ puts_course storing (write ∷ writes) door line = ends_at_node storing.attempt.
 -- an abort that found no record: the release and the end
 abbrev pub release_aborted : Storing → List Turn → Bool
 release_aborted storing (AtDoor place (Release uuid node inc) ∷ line) =
-    is_release_of storing.attempt storing.commit.id.uuid uuid node inc && ends_at_node storing.attempt.node (ends storing.attempt) line
+    is_release_of storing.attempt storing.commit.id.uuid uuid node inc && ends_at_node storing.attempt.node (ends storing.attempt tells_aborted) line
 release_aborted storing line = ends_at_node storing.attempt.node (doubts storing.attempt tells_refused) line
 
 -- what follows where no record was found: a commit makes all its puts again, and an abort releases its claim
@@ -119,19 +136,24 @@ settle_course aborts storing door (AtDoor place (Call node inc (Get name) answer
 settle_course aborts storing door line = ends_at_node storing.attempt.node (doubts storing.attempt tells_refused) line
 
 -- an attempt leaves: the release and the end. A release makes no entry only where the incarnation was fenced, and then the node is answered to be down
-abbrev pub leave_course : Attempt → List ℕ → List DoorEntry → List Turn → Bool
-leave_course a uuid door (AtDoor place (Release released node inc) ∷ line) = is_release_of a uuid released node inc && ends_at_node a.node (ends a) line
-leave_course a uuid door line = ends_at_node a.node is_cut_off line && ends_fenced (caller_of a) door line
+abbrev pub leave_course : Bool → Attempt → List ℕ → List DoorEntry → List Turn → Bool
+leave_course aborts a uuid door (AtDoor place (Release released node inc) ∷ line) = is_release_of a uuid released node inc && ends_at_node a.node (ends a (tells_left aborts)) line
+leave_course aborts a uuid door line = ends_at_node a.node is_cut_off line && ends_fenced (caller_of a) door line
 
 -- the settling of what an attempt has fixed
 abbrev pub settles : Bool → Attempt → List NodeEntry → Option Commit → List DoorEntry → List Turn → Bool
 settles aborts a part None door line = false
 settles aborts a part (Some c) door line = settle_course aborts (record { attempt = a; commit = c; writes = buffer a part }) door line
 
+-- whether an attempt may leave: by an abort, or by a commit where it has buffered nothing
+abbrev pub leaves : Bool → List Write → Bool
+leaves aborts [] = true
+leaves aborts (write ∷ writes) = aborts
+
 -- after the first turn of a commit or an abort: it answered, or the attempt leaves, fixes its commit, which an abort never does, or settles one
 abbrev pub finish_after : Bool → List NodeEntry → NodeAct → List DoorEntry → List Turn → Bool
 finish_after aborts part Nothing door line = is_over line
-finish_after aborts part (Leave a) door line = list_any (λ uuid. leave_course a uuid door line) (uuid_of a part)
+finish_after aborts part (Leave a) door line = leaves aborts (buffer a part) && list_any (λ uuid. leave_course aborts a uuid door line) (uuid_of a part)
 finish_after false part (Start a now c) door line = puts_course (record { attempt = a; commit = c; writes = buffer a part }) (buffer a part) door line
 finish_after aborts part (Settle a) door line = settles aborts a part (fixed_commit (attempt_state a part)) door line
 finish_after aborts part act door line = false
