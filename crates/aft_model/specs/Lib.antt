@@ -16,3 +16,14 @@ pub mod DoorRules
 pub mod LegalDoor
 pub mod Course
 pub mod Asked
+pub mod NodeState
+pub mod Attempts
+pub mod Known
+pub mod Cache
+pub mod Choice
+pub mod Replies
+pub mod NodeRules
+pub mod LegalNode
+pub mod AtomicReads
+pub mod NodeSights
+pub mod Turns
