@@ -37,6 +37,7 @@ use Rattle.aft_model.specs.OpeningCourse.{opening_course}
 use Rattle.aft_model.specs.Readings.{same_id}
 use Rattle.aft_model.specs.ScanRun.{same_line}
 use Rattle.aft_model.specs.Turns.{Turn, AtDoor, AtNode, AtOffice, turns}
+use Rattle.aft_model.specs.Views.{have_causes}
 
 -- ---- histories
 
@@ -278,3 +279,4 @@ pub record LegalTrace (asked : Asked) (ran : Ran) : Type 0 where
   pub clients : IsTrue (clients_in_order ran)
   pub whole_lines : IsTrue (ran_as_ordered ran (whole_order asked.order (lines asked)))
   pub give_ups : IsTrue (give_ups_backed ran.trace)
+  pub causes : IsTrue (have_causes asked ran)
