@@ -6,3 +6,7 @@ pub mod OneCommit
 pub mod Turns
 pub mod Honesty
 pub mod CommitsOnce
+pub mod Lists
+pub mod Ids
+pub mod Greatest
+pub mod Choices

@@ -8,7 +8,7 @@ use Rattle.aft_records.specs.Superseded.{wrote, is_superseded}
 use Rattle.aft_model.specs.declared.node.NodeAct.{NodeAct}
 use Rattle.aft_model.specs.declared.node.NodeAct.TheVariants.{Stored, Learn, Drop, Announce}
 use Rattle.aft_model.specs.declared.node.NodeEntry.{NodeEntry}
-use Rattle.aft_model.specs.Attempts.{AttemptState, attempt_state, fixed_commit, is_pinned, present}
+use Rattle.aft_model.specs.Attempts.{attempt_state, fixed_commit, is_pinned, present}
 use Rattle.aft_model.specs.NodeState.{Service, service}
 use Rattle.aft_model.specs.Readings.{same_id}
 

@@ -1,5 +1,5 @@
 -- Which histories a node may have, as far as this is said of the history alone.
-use Rattle.std.specs.Prelude.{ℕ, nat_le, nat_lt, ◌==◌, ◌&&◌, ◌||◌, Bool, true, not, List, [], length, Option, is_some, IsTrue}
+use Rattle.std.specs.Prelude.{ℕ, nat_le, nat_lt, ◌&&◌, ◌||◌, Bool, not, List, [], length, Option, is_some, IsTrue}
 use Rattle.std.specs.List.{fold}
 use Rattle.aft_model.specs.declared.node.NodeAct.{NodeAct}
 use Rattle.aft_model.specs.declared.node.NodeAct.TheVariants as acts
