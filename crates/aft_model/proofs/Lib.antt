@@ -10,3 +10,6 @@ pub mod Lists
 pub mod Ids
 pub mod Greatest
 pub mod Choices
+pub mod Services
+pub mod Knowledge
+pub mod Incarnations

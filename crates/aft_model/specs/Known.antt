@@ -16,6 +16,11 @@ use Rattle.aft_model.specs.Readings.{same_id}
 abbrev pub has_id : TxnId → List Commit → Bool
 has_id id commits = list_any (λ c. same_id id c.id) commits
 
+-- whether no two of some commits have one id
+abbrev pub has_each_id_once : List Commit → Bool
+has_each_id_once [] = true
+has_each_id_once (c ∷ commits) = not (has_id c.id commits) && has_each_id_once commits
+
 -- whether an id is among these
 abbrev pub is_listed : TxnId → List TxnId → Bool
 is_listed id ids = list_any (same_id id) ids

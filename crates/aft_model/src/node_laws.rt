@@ -29,3 +29,10 @@ pub fn reads_stay_atomic()
 pub fn read_commit_fits()
     ensures { (key : List ℕ) (pair : ReadPair) (reads : List ReadPair) (known : List Commit) (blocked : List Blocked) → Atomic reads known → IsTrue (is_read pair reads) → IsTrue (wrote_at key pair.id known) → choice key reads known ≡ NoneFits blocked → ⊥ }
 {}
+
+/// What a node knows, within one incarnation.
+pub fn known_within_incarnation()
+    ensures greatest_stays { (node capacity inc : ℕ) (key : List ℕ) (history more : List NodeEntry) → LegalNode node capacity (history ++ more) → IsTrue (serves inc (node_state history)) → IsTrue (serves inc (node_state (history ++ more))) → IsTrue (latest_le (latest key (known history)) (latest key (known (history ++ more)))) }
+    ensures pinned_stays { (node capacity inc : ℕ) (id : TxnId) (history : List NodeEntry) (entry : NodeEntry) → LegalNode node capacity (history ++ entry ∷ []) → IsTrue (serves inc (node_state history)) → IsTrue (serves inc (node_state (history ++ entry ∷ []))) → IsTrue (is_pinned id (part history)) → IsTrue (has_id id (known history)) → IsTrue (has_id id (known (history ++ entry ∷ []))) }
+    ensures superseded_stays_unknown { (node capacity inc : ℕ) (c : Commit) (history more : List NodeEntry) → LegalNode node capacity (history ++ more) → IsTrue (serves inc (node_state history)) → IsTrue (serves inc (node_state (history ++ more))) → IsFalse (is_among c (known history)) → Superseded c (known history) → IsFalse (is_among c (known (history ++ more))) }
+{}
