@@ -1,6 +1,8 @@
 -- What a node knows, as long as it serves as one incarnation.
-use Rattle.std.proofs.Common.{◌≡◌, ℕ, List, [], ◌∷◌, ◌++◌, sym, ap, subst}
+use Rattle.std.proofs.Common.{◌≡◌, ◌∙◌, ℕ, List, [], ◌∷◌, ◌++◌, inl, inr, sym, ap, subst}
 use Rattle.std.specs.Prelude.{IsTrue, IsFalse}
+use Rattle.std.proofs.lemmas.Bool.{true≢false, false≢true}
+use Rattle.aft_id.specs.TxnId.{zero_id}
 use Rattle.aft_id.specs.declared.txn_id.TxnId.{TxnId}
 use Rattle.aft_records.specs.Superseded.{Superseded}
 use Rattle.aft_records.specs.declared.stored.Commit.{Commit}
@@ -9,9 +11,12 @@ use Rattle.aft_model.specs.Attempts.{is_pinned}
 use Rattle.aft_model.specs.Committed.{is_among}
 use Rattle.aft_model.specs.Known.{has_id, known_in, known_of, known, latest, latest_le}
 use Rattle.aft_model.specs.LegalNode.{may_serve, may_follow_at, LegalNode}
-use Rattle.aft_model.specs.NodeState.{Service, NodeState, IsServing, extended, node_state, newest, service_in, part_in, part, serves}
+use Rattle.aft_model.specs.NodeState.{Service, NodeState, IsDown, IsBooting, IsServing, extended, node_state, newest, service_in, part_in, part, serves}
+use Rattle.aft_model.specs.Readings.{same_id}
 use Rattle.aft_model.proofs.Histories.{each_after_snoc, each_after_kept}
 use Rattle.aft_model.proofs.Knowledge.{OneEach, one_each_from, one_each_filter, one_each_extended, pinned_extended, Risen, risen_itself, risen_trans, risen_extended, latest_risen, Missed, missed_extended}
+use Rattle.aft_model.proofs.Ids.{same_id-refl}
+use Rattle.aft_model.proofs.Pins.{Tracked, tracked_at_first, tracked_extended, pinned_known}
 use Rattle.aft_model.proofs.Services.{Moved, Serves, GoesDown, Begins, Waits, Boots, moved_by, served_on, serving, kept_within}
 
 -- ---- what a service knows
@@ -33,6 +38,23 @@ one_each_known node capacity history s legal is =
     subst KnowsOneEach is
     (each_after_kept (may_follow_at node capacity) (λ (h : List NodeEntry). KnowsOneEach (node_state h))
     (λ h entry sofar rule one. one_each_moved node capacity (newest h) (node_state h) entry (node_state (h ++ entry ∷ [])) (moved_by node capacity h entry rule) one) [] history legal tt)
+
+-- a node's attempts and reads are tracked
+abbrev TracksReads : NodeState → Type 0
+TracksReads (IsServing s) = Tracked s
+TracksReads state = Unit {0}
+
+tracked_moved : (node capacity n : ℕ) (before : NodeState) (entry : NodeEntry) (after : NodeState) → Moved node capacity n before entry entry.act entry.answer after → TracksReads before → TracksReads after
+tracked_moved node capacity n before entry after (Serves s was rule is) tracked = subst TracksReads (sym is) (tracked_extended node capacity s entry rule (subst TracksReads was tracked))
+tracked_moved node capacity n before entry after (GoesDown is) tracked = subst TracksReads (sym is) tt
+tracked_moved node capacity n before entry after (Begins inc by rule is) tracked = subst TracksReads (sym is) tt
+tracked_moved node capacity n before entry after (Waits inc running still was is) tracked = subst TracksReads (sym is) tt
+tracked_moved node capacity n before entry after (Boots inc commits boot once is) tracked = subst TracksReads (sym is) (tracked_at_first inc commits)
+
+tracked_reads : (node capacity : ℕ) (history : List NodeEntry) → LegalNode node capacity history → TracksReads (node_state history)
+tracked_reads node capacity history legal =
+    each_after_kept (may_follow_at node capacity) (λ (h : List NodeEntry). TracksReads (node_state h))
+    (λ h entry sofar rule tracked. tracked_moved node capacity (newest h) (node_state h) entry (node_state (h ++ entry ∷ [])) (moved_by node capacity h entry rule) tracked) [] history legal tt
 
 known-at : (history : List NodeEntry) (s : Service) → node_state history ≡ IsServing s → known history ≡ known_in s
 known-at history s is = ap (λ (state : NodeState). known_of (service_in state)) is
@@ -76,3 +98,15 @@ pinned_stays node capacity inc id history entry legal serve still pinned has =
     (pinned_extended node capacity began.0 entry id on.0
     (subst (λ entries. IsTrue (is_pinned id entries)) (part-at history began.0 began.1) pinned)
     (subst (λ commits. IsTrue (has_id id commits)) (known-at history began.0 began.1) has))
+
+pub pinned_is_known : (node capacity : ℕ) (id : TxnId) (history : List NodeEntry) → LegalNode node capacity history → IsTrue (is_pinned id (part history)) → IsFalse (same_id id zero_id) → IsTrue (has_id id (known history))
+pinned_is_known node capacity id history legal pinned other = cases (node_state history) (tracked_reads node capacity history legal) pinned
+  where
+    cases : (state : NodeState) → TracksReads state → IsTrue (is_pinned id (part_in (service_in state))) → IsTrue (has_id id (known_of (service_in state)))
+    cases (IsServing s) tracked pinned =
+        elim (pinned_known s id tracked pinned) [
+          | inl zero ↦ absurd (true≢false (sym (subst (λ (i : TxnId). IsTrue (same_id id i)) zero (same_id-refl id)) ∙ other))
+          | inr has ↦ has
+        ]
+    cases IsDown tracked pinned = absurd (false≢true pinned)
+    cases (IsBooting inc running) tracked pinned = absurd (false≢true pinned)

@@ -34,7 +34,7 @@ abbrev pub OneEach : List Commit → Type 0
 OneEach commits = (c d : Commit) → In c commits → In d commits → c.id ≡ d.id → c ≡ d
 
 -- a commit among some has its id there
-has_there : (id : TxnId) (c : Commit) (commits : List Commit) → In c commits → id ≡ c.id → IsTrue (has_id id commits)
+pub has_there : (id : TxnId) (c : Commit) (commits : List Commit) → In c commits → id ≡ c.id → IsTrue (has_id id commits)
 has_there id c commits among is = any_from (λ (d : Commit). same_id id d.id) c commits among (subst (λ (i : TxnId). IsTrue (same_id id i)) is (same_id-refl id))
 
 pub one_each_from : (commits : List Commit) → IsTrue (has_each_id_once commits) → OneEach commits

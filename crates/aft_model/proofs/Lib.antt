@@ -13,3 +13,4 @@ pub mod Choices
 pub mod Services
 pub mod Knowledge
 pub mod Incarnations
+pub mod Pins

@@ -33,6 +33,7 @@ pub fn read_commit_fits()
 /// What a node knows, within one incarnation.
 pub fn known_within_incarnation()
     ensures greatest_stays { (node capacity inc : ℕ) (key : List ℕ) (history more : List NodeEntry) → LegalNode node capacity (history ++ more) → IsTrue (serves inc (node_state history)) → IsTrue (serves inc (node_state (history ++ more))) → IsTrue (latest_le (latest key (known history)) (latest key (known (history ++ more)))) }
+    ensures pinned_is_known { (node capacity : ℕ) (id : TxnId) (history : List NodeEntry) → LegalNode node capacity history → IsTrue (is_pinned id (part history)) → IsFalse (same_id id zero_id) → IsTrue (has_id id (known history)) }
     ensures pinned_stays { (node capacity inc : ℕ) (id : TxnId) (history : List NodeEntry) (entry : NodeEntry) → LegalNode node capacity (history ++ entry ∷ []) → IsTrue (serves inc (node_state history)) → IsTrue (serves inc (node_state (history ++ entry ∷ []))) → IsTrue (is_pinned id (part history)) → IsTrue (has_id id (known history)) → IsTrue (has_id id (known (history ++ entry ∷ []))) }
     ensures superseded_stays_unknown { (node capacity inc : ℕ) (c : Commit) (history more : List NodeEntry) → LegalNode node capacity (history ++ more) → IsTrue (serves inc (node_state history)) → IsTrue (serves inc (node_state (history ++ more))) → IsFalse (is_among c (known history)) → Superseded c (known history) → IsFalse (is_among c (known (history ++ more))) }
 {}
