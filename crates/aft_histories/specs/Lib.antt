@@ -3,3 +3,6 @@ pub mod Honest
 pub mod Legal
 pub mod Illegal
 pub mod Facts
+pub mod Replies
+pub mod Boxes
+pub mod Office

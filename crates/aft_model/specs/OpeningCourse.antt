@@ -1,0 +1,47 @@
+-- The course of the opening: what the office reads until the door is open, and then one boot of each node, in order.
+use Rattle.std.specs.Prelude.{ℕ, ◌==◌, ◌&&◌, Bool, true, false, List, [], ◌∷◌, if◌then◌else◌}
+use Rattle.aft_model.specs.declared.door.DoorAct.{DoorAct}
+use Rattle.aft_model.specs.declared.door.DoorAct.TheVariants as door_acts
+use Rattle.aft_model.specs.declared.node.NodeAct.{NodeAct}
+use Rattle.aft_model.specs.declared.node.NodeAct.TheVariants.{Booting, Boot}
+use Rattle.aft_model.specs.DoorKnowledge.{opens}
+use Rattle.aft_model.specs.CourseWords.{is_over}
+use Rattle.aft_model.specs.Membership.{Incarnation, incarnation, same_incarnation}
+use Rattle.aft_model.specs.ScanCourse.{Scanned, scanned}
+use Rattle.aft_model.specs.Sound.{records_prefix}
+use Rattle.aft_model.specs.Turns.{Turn, AtDoor, AtNode, AtOffice}
+
+-- whether an act is the boot of this incarnation
+abbrev pub is_boot : ℕ → NodeAct → Bool
+is_boot inc (Boot other commits) = inc == other
+is_boot inc act = false
+
+-- whether the boot of an incarnation serves, and the rest of the opening follows
+abbrev pub boot_end_course : Incarnation → (List Turn → Bool) → List Turn → Bool
+boot_end_course who go_on (AtNode node before entry ∷ line) = node == who.node && is_boot who.inc entry.act && go_on line
+boot_end_course who go_on line = false
+
+-- behind a whole scan run: the boot serves
+abbrev pub boot_scan_course : Incarnation → (List Turn → Bool) → Scanned → Bool
+boot_scan_course who go_on pages = pages.is_whole && boot_end_course who go_on pages.behind
+
+-- an incarnation comes up and scans the records
+abbrev pub boot_up_course : Incarnation → (List Turn → Bool) → List Turn → Bool
+boot_up_course who go_on (AtDoor place (door_acts.Up node inc) ∷ line) = same_incarnation who (incarnation node inc) && boot_scan_course who go_on (scanned who records_prefix line)
+boot_up_course who go_on line = false
+
+-- the first turn of a boot, by its act
+abbrev pub boot_course : ℕ → (List Turn → Bool) → NodeAct → List Turn → Bool
+boot_course node go_on (Booting inc) line = boot_up_course (incarnation node inc) go_on line
+boot_course node go_on act line = false
+
+-- one boot of each of these nodes, in order, and nothing else
+abbrev pub boots_course : List ℕ → List Turn → Bool
+boots_course [] line = is_over line
+boots_course (node ∷ nodes) (AtNode at before entry ∷ line) = node == at && boot_course node (boots_course nodes) entry.act line
+boots_course (node ∷ nodes) line = false
+
+-- what the office reads until the door is open, and then the boots
+abbrev pub opening_course : List ℕ → List Turn → Bool
+opening_course nodes (AtDoor place act ∷ line) = if opens act then boots_course nodes line else opening_course nodes line
+opening_course nodes line = false
