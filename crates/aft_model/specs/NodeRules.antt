@@ -1,8 +1,7 @@
 -- The rules of a node's history, one for each kind of entry, as far as they speak of that history alone: what the entry may say, and what it answers.
-use Rattle.std.specs.Prelude.{ℕ, suc, max, nat_lt, ◌==◌, ◌&&◌, ◌||◌, Bool, true, false, not, List, [], length, map, filter, Option, Some, None, is_some, if◌then◌else◌}
+use Rattle.std.specs.Prelude.{ℕ, suc, max, nat_lt, ◌==◌, ◌&&◌, ◌||◌, Bool, true, false, not, List, length, map, filter, Option, Some, None, is_some, if◌then◌else◌}
 use Rattle.std.specs.Cmp.Lexicographic.{pointwise}
 use Rattle.std.specs.List.{list_any, list_all, fold}
-use Rattle.std.specs.Option.{option_eq}
 use Rattle.std.specs.Str.{bytes_eq}
 use Rattle.aft_id.specs.declared.txn_id.TxnId.{TxnId}
 use Rattle.aft_records.specs.Limits.{is_time}
@@ -16,10 +15,10 @@ use Rattle.aft_model.specs.declared.choice.Picked.TheVariants as picked
 use Rattle.aft_model.specs.declared.read_set.ReadPair.{ReadPair}
 use Rattle.aft_model.specs.declared.reply.Reply.{Reply}
 use Rattle.aft_model.specs.declared.reply.Reply.TheVariants as replies
-use Rattle.aft_model.specs.Attempts.{Write, AttemptState, IsCommitting, attempt_state, attempts, present_of, is_of, buffer, buffered, written_keys, reads, open_reads, is_running, is_opening, is_committing, is_in_doubt, is_leaving}
+use Rattle.aft_model.specs.Attempts.{AttemptState, IsCommitting, attempt_state, attempts, present_of, is_of, buffer, buffered, written_keys, reads, open_reads, is_running, is_leaving}
 use Rattle.aft_model.specs.Cache.{Kept, cache, kept_value}
 use Rattle.aft_model.specs.Choice.{choice}
-use Rattle.aft_model.specs.Known.{has_id, is_listed, with_commit, known_in, holds_id, droppable, unannounced, in_id_order}
+use Rattle.aft_model.specs.Known.{has_id, is_listed, with_commit, known_in, unannounced, in_id_order}
 use Rattle.aft_model.specs.NodeState.{NodeState, IsDown, IsBooting, IsServing, Service}
 use Rattle.aft_model.specs.Readings.{same_id, same_commit}
 use Rattle.aft_model.specs.Replies.{same_blockers, is_answer, is_silent}
