@@ -73,7 +73,8 @@ pub moved_by : (node capacity : ℕ) (history : List NodeEntry) (entry : NodeEnt
     → Moved node capacity (newest history) (node_state history) entry entry.act entry.answer (node_state (history ++ entry ∷ []))
 moved_by node capacity history entry rule =
     subst (λ (after : NodeState). Moved node capacity (newest history) (node_state history) entry entry.act entry.answer after) (sym (node_state-snoc history entry))
-    (moved node capacity history entry entry.act entry.answer (and_parts (nat_le (front history) entry.front) _ rule).1)
+    (moved node capacity history entry entry.act entry.answer
+    (and_parts (nat_le (front history) entry.front) _ (and_parts (nat_le (front history) entry.front && may_be_done node capacity history entry.act entry.answer) _ rule).0).1)
 
 -- ---- incarnations
 

@@ -9,8 +9,8 @@ use Rattle.aft_model.specs.declared.reply.Reply.TheVariants as replies
 use Rattle.aft_model.specs.Attempts.{attempt_state, open_reads, is_running, is_opening, is_committing, is_in_doubt}
 use Rattle.aft_model.specs.History.{each_after}
 use Rattle.aft_model.specs.Known.{has_each_id_once, holds_id, droppable}
-use Rattle.aft_model.specs.NodeRules.{may_begin_boot, is_boot_refusal, may_admit, is_begun, is_begin_refusal, may_put_key, pick, same_picked, answers_pick, is_value_of, is_fetch_refusal, may_start, may_leave, is_storing, is_doubt, is_end, counts, is_learned, are_ids_of, may_announce}
-use Rattle.aft_model.specs.NodeState.{Service, in_service, node_state, service, newest, boots, serves}
+use Rattle.aft_model.specs.NodeRules.{may_begin_boot, is_boot_refusal, may_admit, is_begun, is_begin_refusal, may_put_key, pick, same_picked, answers_pick, is_value_of, is_fetch_refusal, may_start, may_leave, is_storing, is_doubt, is_end, is_own_end, counts, is_learned, are_ids_of, may_announce}
+use Rattle.aft_model.specs.NodeState.{Service, in_service, node_state, service, part, newest, boots, serves}
 use Rattle.aft_model.specs.Replies.{is_answer, is_silent}
 
 -- whether an act and its answer may come in a service of a node that keeps so many values
@@ -47,9 +47,12 @@ may_be_done node capacity history act answer = in_service (may_serve node capaci
 abbrev pub front : List NodeEntry → ℕ
 front history = fold (λ before entry. entry.front) 0 history
 
--- whether an entry may follow a node's history: it has seen no less of the door's than the one before, and comes by its rule
+-- whether an entry may follow a node's history: it has seen no less of the door's than the one before, comes by its rule, and where it ends a commit, its line has stored that
 abbrev pub may_follow_at : ℕ → ℕ → List NodeEntry → NodeEntry → Bool
-may_follow_at node capacity history entry = nat_le (front history) entry.front && may_be_done node capacity history entry.act entry.answer
+may_follow_at node capacity history entry =
+    nat_le (front history) entry.front
+    && may_be_done node capacity history entry.act entry.answer
+    && is_own_end (part history) entry.by entry.act entry.answer
 
 -- whether each entry of a node's history may follow those before it
 abbrev pub is_legal_node : ℕ → ℕ → List NodeEntry → Bool

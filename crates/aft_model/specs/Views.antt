@@ -1,5 +1,5 @@
 -- The lines of a run as they ran, and whether each has the cause of what it answered.
-use Rattle.std.specs.Prelude.{ℕ, nat_lt, ◌==◌, ◌&&◌, Bool, List, [], map, filter, Option, Some, None}
+use Rattle.std.specs.Prelude.{ℕ, nat_lt, ◌==◌, ◌&&◌, Bool, List, map, filter, Option, Some, None}
 use Rattle.std.specs.List.{Contains, fold, list_all, last_or, before_first}
 use Rattle.aft_model.specs.declared.caller.By.{By}
 use Rattle.aft_model.specs.declared.reply.Reply.{Reply}
