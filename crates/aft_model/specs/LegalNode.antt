@@ -1,5 +1,5 @@
 -- Which histories a node may have, as far as this is said of the history alone.
-use Rattle.std.specs.Prelude.{ℕ, nat_le, nat_lt, ◌&&◌, ◌||◌, Bool, not, List, [], length, Option, is_some, IsTrue}
+use Rattle.std.specs.Prelude.{ℕ, nat_le, nat_lt, ◌&&◌, ◌||◌, Bool, false, not, List, [], length, Option, is_some, IsTrue}
 use Rattle.std.specs.List.{fold}
 use Rattle.aft_model.specs.declared.node.NodeAct.{NodeAct}
 use Rattle.aft_model.specs.declared.node.NodeAct.TheVariants as acts
@@ -32,7 +32,8 @@ may_serve node capacity (acts.Learn commits) answer serving = is_learned (counts
 may_serve node capacity (acts.Drop ids) answer serving = are_ids_of (droppable serving) ids && is_answer (replies.Dropped (length ids)) answer
 may_serve node capacity (acts.GiveUp id) answer serving = not (holds_id id serving) && is_silent answer
 may_serve node capacity (acts.Announce kept pruned) answer serving = may_announce serving kept pruned && is_silent answer
-may_serve node capacity act answer serving = is_some answer
+may_serve node capacity acts.Nothing answer serving = is_some answer
+may_serve node capacity act answer serving = false
 
 -- whether an act and its answer may come after a node's history: a boot, whose commits have each id once, an end of a service, an answer alone, or else by the rules of a service
 abbrev pub may_be_done : ℕ → ℕ → List NodeEntry → NodeAct → Option Reply → Bool
