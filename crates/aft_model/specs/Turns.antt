@@ -23,14 +23,13 @@ pub data Turn : Type 0 where
 -- a line's turns at the door, from a place on
 abbrev pub door_turns : By → ℕ → List DoorEntry → List Turn
 door_turns by place [] = []
-door_turns by place (entry ∷ entries) = if same_line by entry.by then AtDoor place entry.act ∷ door_turns by (suc place) entries else door_turns by (suc place) entries
+door_turns by place (entry ∷ entries) = (if same_line by entry.by then AtDoor place entry.act ∷ [] else []) ++ door_turns by (suc place) entries
 
 -- a line's turns at a node, after a history
 abbrev pub node_turns : By → ℕ → List NodeEntry → List NodeEntry → List Turn
 node_turns by node before [] = []
 node_turns by node before (entry ∷ entries) =
-    if same_line by entry.by then AtNode node before entry ∷ node_turns by node (before ++ entry ∷ []) entries
-    else node_turns by node (before ++ entry ∷ []) entries
+    (if same_line by entry.by then AtNode node before entry ∷ [] else []) ++ node_turns by node (before ++ entry ∷ []) entries
 
 -- a line's turns at the nodes from this number on
 abbrev pub nodes_turns : By → ℕ → List (List NodeEntry) → List Turn
@@ -41,8 +40,7 @@ nodes_turns by node (history ∷ histories) = node_turns by node [] history ++ n
 abbrev pub office_turns : By → List OfficeEntry → List OfficeEntry → List Turn
 office_turns by before [] = []
 office_turns by before (entry ∷ entries) =
-    if same_line by entry.by then AtOffice before entry ∷ office_turns by (before ++ entry ∷ []) entries
-    else office_turns by (before ++ entry ∷ []) entries
+    (if same_line by entry.by then AtOffice before entry ∷ [] else []) ++ office_turns by (before ++ entry ∷ []) entries
 
 -- when a turn was made: one at a node or the office comes before the door's entry at the place of its front, and after those before it
 abbrev pub moment : Turn → ℕ
