@@ -1,10 +1,11 @@
 -- The causes of what a line answers by what the store showed it or refused it: a call that failed, too many records, and damage.
-use Rattle.std.specs.Prelude.{ℕ, nat_lt, ◌&&◌, ◌||◌, Bool, false, not, List, [], length, filter, Option, Some, None, if◌then◌else◌}
+use Rattle.std.specs.Prelude.{ℕ, nat_lt, ◌&&◌, ◌||◌, Bool, false, not, List, [], length, map, filter, Option, Some, None, if◌then◌else◌}
 use Rattle.std.specs.List.{list_any, flat_map}
 use Rattle.std.specs.Str.{bytes_eq}
 use Rattle.aft_keeper.specs.declared.keeper.KeeperAnswer.TheVariants.{Page}
 use Rattle.aft_keeper.specs.declared.keeper.KeeperCall.TheVariants.{Scan}
 use Rattle.aft_keeper.specs.declared.keeper.Pair.{Pair}
+use Rattle.aft_records.specs.Limits.{is_key_byte}
 use Rattle.aft_records.specs.declared.stored.Commit.{Commit}
 use Rattle.aft_model.specs.declared.door.DoorAct.{DoorAct}
 use Rattle.aft_model.specs.declared.door.DoorAct.TheVariants.{Call}
@@ -50,10 +51,14 @@ is_damage fixed pair = not (has_reading pair) || is_of_another fixed pair
 abbrev pub damage : LineView → List Pair
 damage view = filter (is_damage (fixed_for view.command view)) (flat_map shown_pairs (door_entries view))
 
--- whether a pair has this name, if there is one
+-- a name as a reply writes it: a byte outside 33 to 126 is written `?`
+abbrev pub written_name : List ℕ → List ℕ
+written_name name = map (λ byte. if is_key_byte byte then byte else 63) name
+
+-- whether a pair has this name, as a reply writes it, if there is one
 abbrev pub has_name : List ℕ → Option Pair → Bool
 has_name name None = false
-has_name name (Some pair) = bytes_eq name pair.name
+has_name name (Some pair) = bytes_eq name (written_name pair.name)
 
 -- damaged: the first damage that the line was shown has this name, and it wasn't shown too many records
 abbrev pub is_damaged_caused : List ℕ → LineView → Bool

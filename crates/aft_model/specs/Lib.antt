@@ -53,3 +53,4 @@ pub mod CausesNodes
 pub mod CausesRounds
 pub mod CausesVerdicts
 pub mod Causes
+pub mod Views

@@ -1,8 +1,7 @@
 -- The lines of a run: those of its script, and with threads those of the background rounds; in which order they run, and what their clients hold.
-use Rattle.std.specs.Prelude.{ℕ, zero, suc, nat_lt, ◌==◌, ◌&&◌, ◌||◌, Bool, true, false, not, List, [], ◌∷◌, ◌++◌, map, filter, Option, Some, None, if◌then◌else◌}
-use Rattle.std.specs.List.{list_any, list_all, flat_map, last_or}
+use Rattle.std.specs.Prelude.{ℕ, suc, nat_lt, ◌==◌, ◌&&◌, Bool, true, false, not, List, [], ◌∷◌, ◌++◌, map, filter, Option, Some, None, if◌then◌else◌}
+use Rattle.std.specs.List.{list_all, flat_map, last_or, range_with_len}
 use Rattle.aft_model.specs.declared.caller.Attempt.{Attempt}
-use Rattle.aft_model.specs.declared.caller.By.{By}
 use Rattle.aft_model.specs.declared.caller.Hold.{Hold}
 use Rattle.aft_model.specs.declared.node.NodeAct.{NodeAct}
 use Rattle.aft_model.specs.declared.node.NodeAct.TheVariants.{Begin}
@@ -20,17 +19,11 @@ use Rattle.aft_model.specs.Attempts.{present_of}
 use Rattle.aft_model.specs.FinishedText.{line_of}
 use Rattle.aft_model.specs.NodeSights.{first_of}
 use Rattle.aft_model.specs.NodeState.{part}
-use Rattle.aft_model.specs.ScanRun.{same_line}
-use Rattle.aft_model.specs.Turns.{Turn, AtDoor, AtNode, AtOffice, turns}
-
--- so many numbers, from this one on
-abbrev pub numbers_from : ℕ → ℕ → List ℕ
-numbers_from first zero = []
-numbers_from first (suc more) = first ∷ numbers_from (suc first) more
+use Rattle.aft_model.specs.Turns.{Turn, AtNode, turns}
 
 -- the numbers of the nodes
 abbrev pub node_numbers : Settings → List ℕ
-node_numbers settings = numbers_from 1 settings.nodes
+node_numbers settings = range_with_len 1 settings.nodes
 
 -- ---- background lines
 
@@ -41,9 +34,9 @@ node_round node = commands.Announce node ∷ commands.Deliver node ∷ commands.
 -- what the background asks: the rounds of each node, then those of the manager, then the collections
 abbrev pub background : Settings → List Command
 background settings =
-    flat_map (λ node. flat_map (λ round. node_round node) (numbers_from 1 settings.rounds)) (node_numbers settings)
-    ++ map (λ round. commands.Manager) (numbers_from 1 settings.rounds)
-    ++ map (λ round. commands.Collect) (numbers_from 1 settings.rounds)
+    flat_map (λ node. flat_map (λ round. node_round node) (range_with_len 1 settings.rounds)) (node_numbers settings)
+    ++ map (λ round. commands.Manager) (range_with_len 1 settings.rounds)
+    ++ map (λ round. commands.Collect) (range_with_len 1 settings.rounds)
 
 -- commands as lines of client 0, numbered from here on
 abbrev pub numbered : ℕ → List Command → List Line

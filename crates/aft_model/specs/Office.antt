@@ -64,7 +64,7 @@ last_round by office = last_or None (flat_map (λ entry. if same_line by entry.b
 abbrev pub are_among : List TxnId → List TxnId → Bool
 are_among [] others = true
 are_among (id ∷ ids) [] = false
-are_among (id ∷ ids) (other ∷ others) = if same_id id other then are_among ids others else are_among (id ∷ ids) others
+are_among (id ∷ ids) (other ∷ others) = are_among (if same_id id other then ids else id ∷ ids) others
 
 -- whether ids may be posted after a round: they are some of the missed, and the answer counts what the round heard of and what it missed
 abbrev pub may_post : Option ManagerRound → List TxnId → Option Reply → Bool

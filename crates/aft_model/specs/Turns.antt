@@ -1,9 +1,13 @@
 -- The turns of a line, in order: its entries in the histories of the door, of the nodes and of the office, put together by their fronts and places.
-use Rattle.std.specs.Prelude.{ℕ, suc, nat_lt, ◌+◌, Bool, List, [], ◌∷◌, ◌++◌, Option, None, option_to_list, if◌then◌else◌}
+use Rattle.std.specs.Prelude.{ℕ, suc, nat_lt, ◌+◌, ◌==◌, ◌&&◌, ◌||◌, Bool, false, List, [], ◌∷◌, ◌++◌, Option, Some, None, option_to_list, if◌then◌else◌}
 use Rattle.std.specs.List.{fold, flat_map}
+use Rattle.aft_id.specs.TxnId.{id_lt}
+use Rattle.aft_id.specs.declared.txn_id.TxnId.{TxnId}
 use Rattle.aft_model.specs.declared.caller.By.{By}
 use Rattle.aft_model.specs.declared.door.DoorAct.{DoorAct}
 use Rattle.aft_model.specs.declared.door.DoorEntry.{DoorEntry}
+use Rattle.aft_model.specs.declared.node.NodeAct.{NodeAct}
+use Rattle.aft_model.specs.declared.node.NodeAct.TheVariants.{GiveUp}
 use Rattle.aft_model.specs.declared.node.NodeEntry.{NodeEntry}
 use Rattle.aft_model.specs.declared.office.OfficeEntry.{OfficeEntry}
 use Rattle.aft_model.specs.declared.reply.Reply.{Reply}
@@ -19,14 +23,13 @@ pub data Turn : Type 0 where
 -- a line's turns at the door, from a place on
 abbrev pub door_turns : By → ℕ → List DoorEntry → List Turn
 door_turns by place [] = []
-door_turns by place (entry ∷ entries) = if same_line by entry.by then AtDoor place entry.act ∷ door_turns by (suc place) entries else door_turns by (suc place) entries
+door_turns by place (entry ∷ entries) = (if same_line by entry.by then AtDoor place entry.act ∷ [] else []) ++ door_turns by (suc place) entries
 
 -- a line's turns at a node, after a history
 abbrev pub node_turns : By → ℕ → List NodeEntry → List NodeEntry → List Turn
 node_turns by node before [] = []
 node_turns by node before (entry ∷ entries) =
-    if same_line by entry.by then AtNode node before entry ∷ node_turns by node (before ++ entry ∷ []) entries
-    else node_turns by node (before ++ entry ∷ []) entries
+    (if same_line by entry.by then AtNode node before entry ∷ [] else []) ++ node_turns by node (before ++ entry ∷ []) entries
 
 -- a line's turns at the nodes from this number on
 abbrev pub nodes_turns : By → ℕ → List (List NodeEntry) → List Turn
@@ -37,8 +40,7 @@ nodes_turns by node (history ∷ histories) = node_turns by node [] history ++ n
 abbrev pub office_turns : By → List OfficeEntry → List OfficeEntry → List Turn
 office_turns by before [] = []
 office_turns by before (entry ∷ entries) =
-    if same_line by entry.by then AtOffice before entry ∷ office_turns by (before ++ entry ∷ []) entries
-    else office_turns by (before ++ entry ∷ []) entries
+    (if same_line by entry.by then AtOffice before entry ∷ [] else []) ++ office_turns by (before ++ entry ∷ []) entries
 
 -- when a turn was made: one at a node or the office comes before the door's entry at the place of its front, and after those before it
 abbrev pub moment : Turn → ℕ
@@ -46,10 +48,28 @@ moment (AtDoor place act) = place + place + 1
 moment (AtNode node before entry) = entry.front + entry.front
 moment (AtOffice before entry) = entry.front + entry.front
 
--- turns in order of their moments with one more, behind those of its moment
+-- the id that a turn gives up at its node
+abbrev pub given_by : NodeAct → Option TxnId
+given_by (GiveUp id) = Some id
+given_by act = None
+
+abbrev pub given_in : Turn → Option TxnId
+given_in (AtNode node before entry) = given_by entry.act
+given_in turn = None
+
+-- whether both ids are given, and the first is below the second
+abbrev pub is_lesser : Option TxnId → Option TxnId → Bool
+is_lesser (Some a) (Some b) = id_lt a b
+is_lesser a b = false
+
+-- whether a turn was made before another: at an earlier moment, or at the same one it gave a lesser id up, since a line goes through ids in their order
+abbrev pub precedes : Turn → Turn → Bool
+precedes turn other = nat_lt (moment turn) (moment other) || moment turn == moment other && is_lesser (given_in turn) (given_in other)
+
+-- turns in order with one more, behind those that it doesn't precede
 abbrev pub with_turn : List Turn → Turn → List Turn
 with_turn [] turn = turn ∷ []
-with_turn (other ∷ turns) turn = if nat_lt (moment turn) (moment other) then turn ∷ other ∷ turns else other ∷ with_turn turns turn
+with_turn (other ∷ turns) turn = if precedes turn other then turn ∷ other ∷ turns else other ∷ with_turn turns turn
 
 -- the turns of a line, in order. So each front is above the place of each earlier entry of the line at the door, and no place is below an earlier front
 abbrev pub turns : By → Trace → List Turn

@@ -1,0 +1,9 @@
+pub mod Words
+pub mod Works
+pub mod Entries
+pub mod Lines
+pub mod Rounds
+pub mod Reads
+pub mod Faults
+pub mod Told
+pub mod Pinned
