@@ -1,27 +1,23 @@
 -- Lines as they ran, each with the cause of its reply, and lines that lack it.
-use Rattle.std.specs.Prelude.{ℕ, List, [], ◌∷◌, ◌++◌, codes, Option, Some, None}
+use Rattle.std.specs.Prelude.{ℕ, List, [], ◌∷◌, ◌++◌, map, codes, Some}
+use Rattle.std.specs.List.{range_with_len}
 use Rattle.aft_id.specs.TxnId.{zero_id}
 use Rattle.aft_keeper.specs.declared.keeper.KeeperAnswer.{KeeperAnswer}
-use Rattle.aft_keeper.specs.declared.keeper.KeeperAnswer.TheVariants.{Failed, Absent, Found, Done, Page}
+use Rattle.aft_keeper.specs.declared.keeper.KeeperAnswer.TheVariants.{Failed, Absent, Done}
 use Rattle.aft_keeper.specs.declared.keeper.KeeperCall.TheVariants.{Scan}
 use Rattle.aft_records.specs.declared.stored.Commit.{Commit}
 use Rattle.aft_model.specs.declared.choice.Blocked.{Blocked}
 use Rattle.aft_model.specs.declared.choice.Picked.TheVariants as picked
 use Rattle.aft_model.specs.declared.door.DoorAct.TheVariants as door
 use Rattle.aft_model.specs.declared.door.DoorEntry.{DoorEntry}
-use Rattle.aft_model.specs.declared.mail.MailAct.TheVariants.{Post}
 use Rattle.aft_model.specs.declared.node.NodeAct.TheVariants as node
 use Rattle.aft_model.specs.declared.node.NodeEntry.{NodeEntry}
-use Rattle.aft_model.specs.declared.office.OfficeAct.TheVariants as office
-use Rattle.aft_model.specs.declared.office.OfficeEntry.{OfficeEntry}
-use Rattle.aft_model.specs.declared.reply.Reply.{Reply}
 use Rattle.aft_model.specs.declared.reply.Reply.TheVariants as reply
-use Rattle.aft_model.specs.declared.reply.Verdict.TheVariants as verdict
 use Rattle.aft_model.specs.declared.script.Command.TheVariants as ask
 use Rattle.aft_model.specs.Asked.{Ran}
 use Rattle.aft_model.specs.LineView.{LineView}
-use Rattle.aft_histories.specs.Entries.{u, id_of, x, y, first, record_of, marker_of, version_of, record_pair, version_pair, full_pair}
-use Rattle.aft_histories.specs.RunLines.{did, got, put, called, went, told, opened, booted_1, booted_2, ran, line, holds_nothing, holds_first, attempt_at, begins, then, last, other, after_opening, begun_door, opening_node, begun_node, put_node, only_x, started_node, version_door}
+use Rattle.aft_histories.specs.Entries.{u, id_of, x, y, record_of, version_of, record_pair, version_pair}
+use Rattle.aft_histories.specs.RunLines.{did, got, put, went, told, opened, booted_1, booted_2, ran, line, holds_nothing, holds_first, attempt_at, begins, then, last, other, third, begun_door, opening_node, begun_node, put_node, only_x, started_node, version_door}
 
 -- ---- begin
 
@@ -66,6 +62,13 @@ ok = line then (ask.Put x (codes "hi")) holds_first (ran begun_door put_node boo
 abbrev pub committing : LineView
 committing = line other (ask.Put x (codes "hi")) holds_first (ran begun_door (started_node ++ told other 10 node.Nothing reply.Committing ∷ []) booted_2 [])
 
+-- an attempt that has put as many keys as it may, and puts one more, or one of them again
+abbrev pub full_node : List NodeEntry
+full_node = begun_node ++ map (λ byte. told then 10 (node.Put (attempt_at 1) (byte ∷ []) (codes "hi")) reply.Stored) (range_with_len 33 32)
+
+abbrev pub putting_more : List ℕ → LineView
+putting_more key = line last (ask.Put key (codes "hi")) holds_first (ran begun_door (full_node ++ told last 10 node.Nothing reply.TooManyKeys ∷ []) booted_2 [])
+
 -- a key that nobody puts
 abbrev pub z : List ℕ
 z = codes "z"
@@ -100,6 +103,10 @@ fetching answer = getting y (got last 1 (version_of y both.id) answer ∷ [])
 -- why that version doesn't fit where z was read as absent
 abbrev pub blockers : List Blocked
 blockers = record { id = both.id; key = z; read = zero_id } ∷ []
+
+-- a commit while that fetch isn't over
+abbrev pub open_read : LineView
+open_read = line third ask.Commit holds_first (ran begun_door (begun_node ++ takes_in both ∷ went last 10 (node.Select (attempt_at 1) y (picked.Fetch both.id)) ∷ told third 10 node.Nothing (reply.OpenReads 1) ∷ []) booted_2 [])
 
 -- a get of y after z was read as absent: that version doesn't fit
 abbrev pub blocked : LineView
@@ -186,6 +193,22 @@ starting answer = line last (ask.Start 1) (holds_nothing 1)
 -- a start of node 1, which serves
 abbrev pub starting_again : LineView
 starting_again = line last (ask.Start 1) (holds_nothing 1) (ran opened (booted_1 ++ told last 7 node.Nothing (reply.IsUp 1 1) ∷ []) booted_2 [])
+
+-- a start of node 1 while it boots, where a boot runs and where it was stopped
+abbrev pub starting_beside : List NodeEntry → LineView
+starting_beside stopped = line last (ask.Start 1) (holds_nothing 1) (ran fenced_door (down_1 ++ went other 8 (node.Booting 2) ∷ stopped ++ told last 8 node.Nothing (reply.IsBooting 1 2) ∷ []) booted_2 [])
+
+abbrev pub stopped_boot : List NodeEntry
+stopped_boot = told other 8 (node.BootStopped 2) reply.StoreFault ∷ []
+
+-- a get whose fetch was refused, since the incarnation was fenced before; the node has not gone down
+abbrev pub shut_out : LineView
+shut_out = getting y (did other (door.Fence 1 1) ∷ [])
+    (begun_node ++ takes_in both ∷ went last 10 (node.Select (attempt_at 1) y (picked.Fetch both.id)) ∷ told last 11 (node.Lost (attempt_at 1) y both.id) (reply.NodeDown 1 1) ∷ [])
+
+-- what came of a put, which makes no calls, at the same time
+abbrev pub fenced_only : Ran
+fenced_only = ran fenced_door (booted_1 ++ told last 8 node.Nothing (reply.NodeDown 1 1) ∷ []) booted_2 []
 
 -- what came of a line that tells that node 1 is down: after the crash, and where it serves
 abbrev pub told_down : Ran

@@ -1,11 +1,7 @@
 -- Lines of rounds as they ran: collections, announcements and rounds of the manager.
-use Rattle.std.specs.Prelude.{ℕ, List, [], ◌∷◌, ◌++◌, codes, Option, Some, None}
-use Rattle.aft_id.specs.declared.txn_id.TxnId.{TxnId}
-use Rattle.aft_keeper.specs.declared.keeper.KeeperAnswer.{KeeperAnswer}
-use Rattle.aft_keeper.specs.declared.keeper.KeeperAnswer.TheVariants.{Failed, Done, Found, Page}
+use Rattle.std.specs.Prelude.{ℕ, List, [], ◌∷◌, ◌++◌, codes, Some, None}
+use Rattle.aft_keeper.specs.declared.keeper.KeeperAnswer.TheVariants.{Failed, Done, Page}
 use Rattle.aft_keeper.specs.declared.keeper.KeeperCall.TheVariants.{Delete, Scan}
-use Rattle.aft_keeper.specs.declared.keeper.Pair.{Pair}
-use Rattle.aft_records.specs.declared.stored.Commit.{Commit}
 use Rattle.aft_model.specs.declared.choice.Picked.TheVariants as picked
 use Rattle.aft_model.specs.declared.door.DoorAct.TheVariants as door
 use Rattle.aft_model.specs.declared.door.DoorEntry.{DoorEntry}
@@ -15,7 +11,6 @@ use Rattle.aft_model.specs.declared.node.NodeAct.TheVariants as node
 use Rattle.aft_model.specs.declared.node.NodeEntry.{NodeEntry}
 use Rattle.aft_model.specs.declared.office.OfficeAct.TheVariants as office
 use Rattle.aft_model.specs.declared.office.OfficeEntry.{OfficeEntry}
-use Rattle.aft_model.specs.declared.reply.Judged.{Judged}
 use Rattle.aft_model.specs.declared.reply.Reply.{Reply}
 use Rattle.aft_model.specs.declared.reply.Reply.TheVariants as reply
 use Rattle.aft_model.specs.declared.reply.Verdict.{Verdict}
@@ -24,8 +19,8 @@ use Rattle.aft_model.specs.declared.caller.By.{By}
 use Rattle.aft_model.specs.Asked.{Ran}
 use Rattle.aft_model.specs.LineView.{LineView}
 use Rattle.aft_model.specs.Opening.{opening}
-use Rattle.aft_histories.specs.Entries.{u, x, y, first, second, record_of, version_of, record_pair, version_pair, full_pair, done_pair}
-use Rattle.aft_histories.specs.RunLines.{did, got, put, called, went, told, opened, booted_2, ran, line, holds_nothing, attempt_at, begins, then, last, other, begun_door, put_node, only_x}
+use Rattle.aft_histories.specs.Entries.{u, x, y, first, second, record_of, version_of, record_pair, full_pair, done_pair}
+use Rattle.aft_histories.specs.RunLines.{did, put, called, went, told, opened, booted_2, ran, line, holds_nothing, attempt_at, begins, then, last, other, begun_door, put_node, only_x}
 
 -- ---- collections of a store that has the first commit and the second, which supersedes it
 

@@ -1,8 +1,7 @@
 -- Small runs, and lines of them as they ran, in short words.
-use Rattle.std.specs.Prelude.{ℕ, List, [], ◌∷◌, ◌++◌, codes, Option, Some, None}
-use Rattle.aft_id.specs.declared.txn_id.TxnId.{TxnId}
+use Rattle.std.specs.Prelude.{ℕ, List, [], ◌∷◌, ◌++◌, codes, Some, None}
 use Rattle.aft_keeper.specs.declared.keeper.KeeperAnswer.{KeeperAnswer}
-use Rattle.aft_keeper.specs.declared.keeper.KeeperAnswer.TheVariants.{Failed, Absent, Found, Done, Page}
+use Rattle.aft_keeper.specs.declared.keeper.KeeperAnswer.TheVariants.{Absent, Done, Page}
 use Rattle.aft_keeper.specs.declared.keeper.KeeperCall.{KeeperCall}
 use Rattle.aft_keeper.specs.declared.keeper.KeeperCall.TheVariants.{Get, Put, Scan}
 use Rattle.aft_keeper.specs.declared.keeper.Pair.{Pair}
@@ -24,7 +23,7 @@ use Rattle.aft_model.specs.Asked.{Ran, Settings}
 use Rattle.aft_model.specs.LineView.{LineView}
 use Rattle.aft_model.specs.Opening.{opening}
 use Rattle.aft_model.specs.Turns.{turns}
-use Rattle.aft_histories.specs.Entries.{u, id_of, x, record_of, marker_of, version_of, record_pair, version_pair, first_page, opening_entry}
+use Rattle.aft_histories.specs.Entries.{u, id_of, x, record_of, marker_of, version_pair, first_page, opening_entry}
 use Rattle.aft_histories.specs.Replies.{line_by}
 
 -- ---- entries
@@ -96,7 +95,7 @@ attempt_at number = record { node = number; inc = 1; number = 1 }
 abbrev pub holds_first : Hold
 holds_first = record { node = 1; attempt = Some (attempt_at 1) }
 
--- the lines that the runs are made of: those of a first client, and one of a second
+-- the lines that the runs are made of: those of a first client, and one each of a second and a third
 abbrev pub begins : By
 begins = line_by 1 1
 
@@ -108,6 +107,9 @@ last = line_by 1 3
 
 abbrev pub other : By
 other = line_by 2 4
+
+abbrev pub third : By
+third = line_by 3 5
 
 -- ---- a transaction at node 1
 

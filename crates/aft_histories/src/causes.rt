@@ -21,6 +21,8 @@ pub fn begins_caused()
     ensures busy_with_none { IsFalse (cause lines.busy_with_none (reply.Busy 1 1)) }
     ensures ok { Caused lines.ok reply.Stored }
     ensures committing { Caused lines.committing reply.Committing }
+    ensures full { Caused (lines.putting_more (codes "x")) reply.TooManyKeys }
+    ensures put_again { IsFalse (cause (lines.putting_more (codes "!")) reply.TooManyKeys) }
     ensures not_ok { IsFalse (cause lines.committing reply.Stored) }
 {}
 
@@ -52,6 +54,8 @@ pub fn commits_caused()
     ensures ended { Caused lines.leaving reply.Ended }
     ensures something { IsFalse (cause lines.committed reply.Ended) }
     ensures aborted { Caused lines.aborting reply.Aborted }
+    ensures open_read { Caused lines.open_read (reply.OpenReads 1) }
+    ensures fewer { IsFalse (cause lines.open_read (reply.OpenReads 2)) }
     ensures clock_end { Caused (lines.over_time 281474976710655) reply.ClockEnd }
     ensures in_time { IsFalse (cause (lines.over_time 281474976710654) reply.ClockEnd) }
 {}
@@ -68,6 +72,11 @@ pub fn nodes_caused()
     ensures started { Caused (lines.starting (Page [])) (reply.Started 1 2) }
     ensures boot_fault { IsFalse (cause (lines.starting Failed) (reply.Started 1 2)) }
     ensures up { Caused lines.starting_again (reply.IsUp 1 1) }
+    ensures booting { Caused (lines.starting_beside []) (reply.IsBooting 1 2) }
+    ensures stopped { IsFalse (cause (lines.starting_beside lines.stopped_boot) (reply.IsBooting 1 2)) }
+    ensures shut_out { Caused lines.shut_out (reply.NodeDown 1 1) }
+    ensures not_shut_out { IsFalse (cause (lines.fetching Absent) (reply.NodeDown 1 1)) }
+    ensures no_calls { IsFalse (cause (lines.putting lines.fenced_only) (reply.NodeDown 1 1)) }
     ensures down { Caused (lines.putting lines.told_down) (reply.NodeDown 1 1) }
     ensures serving { IsFalse (cause (lines.putting lines.told_down_while_up) (reply.NodeDown 1 1)) }
     ensures holds_none { Caused (lines.putting_nothing lines.told_down) reply.NoTransaction }
