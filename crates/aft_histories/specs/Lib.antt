@@ -6,3 +6,6 @@ pub mod Facts
 pub mod Replies
 pub mod Boxes
 pub mod Office
+pub mod RunLines
+pub mod CausedLines
+pub mod CausedRounds

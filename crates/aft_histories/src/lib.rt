@@ -3,6 +3,7 @@
 #![tactic(auto)]
 
 mod boxes;
+mod causes;
 mod doors;
 mod facts;
 mod honesty;
@@ -11,6 +12,9 @@ mod refused;
 mod replies;
 
 pub use boxes::{boxes_refused, legal_boxes};
+pub use causes::{
+    begins_caused, collections_caused, commits_caused, gets_caused, nodes_caused, rounds_caused,
+};
 pub use doors::legal;
 pub use facts::{commits, courses, door, pages, stores};
 pub use honesty::{dishonest, honest};

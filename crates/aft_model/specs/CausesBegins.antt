@@ -13,7 +13,7 @@ use Rattle.aft_model.specs.CausesAttempts.{state_in}
 use Rattle.aft_model.specs.Claims.{holds}
 use Rattle.aft_model.specs.DoorKnowledge.{knows_unused}
 use Rattle.aft_model.specs.Evidence.{shown_pairs}
-use Rattle.aft_model.specs.LineView.{LineView, door_entries, some_prefix, first_front, last_front, goes_on, found_service, newest_here}
+use Rattle.aft_model.specs.LineView.{LineView, door_entries, some_prefix, first_front, last_front, went_on, found_service, newest_here}
 use Rattle.aft_model.specs.Membership.{Incarnation, incarnation, same_incarnation}
 use Rattle.aft_model.specs.NodeState.{Service, in_service}
 use Rattle.aft_model.specs.Readings.{same_id, id_of_marker, records_in, markers_in}
@@ -51,7 +51,7 @@ is_claim act = false
 -- whether another incarnation held the UUID at a place between the line's first turn and its last, and the line, which went on to claim it, claimed nothing
 abbrev pub is_held_elsewhere : Incarnation → List ℕ → ℕ → LineView → Bool
 is_held_elsewhere who uuid node view =
-    goes_on view
+    went_on view
     && not (same_incarnation who (incarnation node (newest_here view)))
     && not (list_any (λ entry. is_claim entry.act) (door_entries view))
     && some_prefix (holds who uuid) (first_front view) (last_front view) view.ran.trace.door

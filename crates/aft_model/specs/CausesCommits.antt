@@ -14,14 +14,14 @@ use Rattle.aft_model.specs.CausesAttempts.{state_in, is_ready}
 use Rattle.aft_model.specs.CausesBegins.{of_begin, shows_id}
 use Rattle.aft_model.specs.Evidence.{shows_absent}
 use Rattle.aft_model.specs.History.{followed}
-use Rattle.aft_model.specs.LineView.{LineView, door_entries, finds, settles, is_commit, is_abort}
+use Rattle.aft_model.specs.LineView.{LineView, door_entries, finds, is_for_fixed, is_commit, is_abort}
 use Rattle.aft_model.specs.NodeSights.{is_stored_by}
 use Rattle.aft_model.specs.Readings.{same_id, record_name}
 
 -- committed: to a begin, the line was shown a record or a marker of this id; to a commit or an abort, its commit has this id, and the line put its record and that was acknowledged, or was shown it
 abbrev pub is_committed_caused : TxnId → LineView → Bool
 is_committed_caused id view =
-    of_begin (λ uuid node. shows_id id view) view.command || settles (λ c. same_id id c.id && is_stored_by c (door_entries view)) view
+    of_begin (λ uuid node. shows_id id view) view.command || is_for_fixed (λ c. same_id id c.id && is_stored_by c (door_entries view)) view
 
 -- whether an act is a put of this name that failed, or a get of it that did
 abbrev pub fails_put : List ℕ → DoorAct → Bool
@@ -38,7 +38,7 @@ fails_both c entries = followed (λ entry. fails_put (record_name c.id.uuid) ent
 
 -- in doubt: the line's put of the record failed, and then its get to settle it too
 abbrev pub is_in_doubt_caused : LineView → Bool
-is_in_doubt_caused view = is_commit view.command && settles (λ c. fails_both c (door_entries view)) view
+is_in_doubt_caused view = is_commit view.command && is_for_fixed (λ c. fails_both c (door_entries view)) view
 
 -- ended: a commit of an attempt that runs, has put nothing and has no fetch that isn't over
 abbrev pub is_ended_caused : LineView → Bool
@@ -47,7 +47,7 @@ is_ended_caused view = is_commit view.command && finds (is_ready (λ count. coun
 -- whether a commit in doubt was found to have no record
 abbrev pub is_found_absent : LineView → Bool
 is_found_absent view =
-    finds (λ a serving. is_in_doubt (state_in a serving)) view && settles (λ c. list_any (shows_absent (record_name c.id.uuid)) (door_entries view)) view
+    finds (λ a serving. is_in_doubt (state_in a serving)) view && is_for_fixed (λ c. list_any (shows_absent (record_name c.id.uuid)) (door_entries view)) view
 
 -- aborted: an abort of an attempt that runs and has no fetch that isn't over, or of one in doubt whose record the line was shown to be absent
 abbrev pub is_aborted_caused : LineView → Bool

@@ -11,7 +11,7 @@ use Rattle.aft_model.specs.declared.node.NodeAct.TheVariants as node_acts
 use Rattle.aft_model.specs.declared.script.Command.{Command}
 use Rattle.aft_model.specs.declared.script.Command.TheVariants as commands
 use Rattle.aft_model.specs.CausesScans.{is_too_many_records_caused, damage}
-use Rattle.aft_model.specs.LineView.{LineView, NodeTurn, door_entries, some_prefix, node_turns, first_node_turn, before_turn, last_front, goes_on, found_service, newest_here}
+use Rattle.aft_model.specs.LineView.{LineView, NodeTurn, door_entries, some_prefix, node_turns, first_node_turn, before_turn, last_front, went_on, found_service, newest_here}
 use Rattle.aft_model.specs.Membership.{Incarnation, ups}
 use Rattle.aft_model.specs.NodeSights.{is_fence_of, is_fenced}
 use Rattle.aft_model.specs.NodeState.{NodeState, IsBooting, in_service, node_state, serves, boots}
@@ -30,7 +30,7 @@ is_unbooted inc turns = list_any (λ turn. not (boots inc (node_state turn.befor
 
 -- whether a line went on to the door, and its last turn has seen this incarnation fenced
 abbrev pub is_shut_out : Incarnation → LineView → Bool
-is_shut_out who view = goes_on view && is_fenced who (take (last_front view) view.ran.trace.door)
+is_shut_out who view = went_on view && is_fenced who (take (last_front view) view.ran.trace.door)
 
 -- whether an incarnation is that of an attempt, if one is held
 abbrev pub is_of_held : Incarnation → Option Attempt → Bool

@@ -56,10 +56,10 @@ abbrev pub written_name : List ℕ → List ℕ
 written_name name = map (λ byte. if is_key_byte byte then byte else 63) name
 
 -- whether a pair has this name, as a reply writes it, if there is one
-abbrev pub is_named : List ℕ → Option Pair → Bool
-is_named name None = false
-is_named name (Some pair) = bytes_eq name (written_name pair.name)
+abbrev pub has_name : List ℕ → Option Pair → Bool
+has_name name None = false
+has_name name (Some pair) = bytes_eq name (written_name pair.name)
 
 -- damaged: the first damage that the line was shown has this name, and it wasn't shown too many records
 abbrev pub is_damaged_caused : List ℕ → LineView → Bool
-is_damaged_caused name view = is_named name (first_of (damage view)) && not (is_too_many_records_caused view)
+is_damaged_caused name view = has_name name (first_of (damage view)) && not (is_too_many_records_caused view)

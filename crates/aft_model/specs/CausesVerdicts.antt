@@ -42,11 +42,11 @@ abbrev pub office_fronts : LineView → List ℕ
 office_fronts view = flat_map office_front_in view.turns
 
 -- how much of it had been seen where a collection began, and where it ended
-abbrev pub begun : LineView → ℕ
-begun view = unwrap_or (first_of (office_fronts view)) 0
+abbrev pub front_begun : LineView → ℕ
+front_begun view = unwrap_or (first_of (office_fronts view)) 0
 
-abbrev pub ended : LineView → ℕ
-ended view = unwrap_or (last_or None (office_fronts view)) 0
+abbrev pub front_ended : LineView → ℕ
+front_ended view = unwrap_or (last_or None (office_fronts view)) 0
 
 -- whether an incarnation is one of a node, and has not given an id up
 abbrev pub has_kept : TxnId → List DoorEntry → Incarnation → Bool
@@ -69,12 +69,12 @@ ran_before by (Some lines) = list_any (same_line by) lines
 
 -- whether an entry was made before a collection: at the opening, by a line that ran before, or where less of the door's history had been seen
 abbrev pub is_made_before : LineView → NodeEntry → Bool
-is_made_before view entry = same_line opening entry.by || ran_before entry.by view.before || nat_lt entry.front (begun view)
+is_made_before view entry = same_line opening entry.by || ran_before entry.by view.before || nat_lt entry.front (front_begun view)
 
 -- whether an entry may have been made before a collection's end: no more of the door's history had been seen, and where lines run whole it isn't of one that ran after
 abbrev pub may_be_made_by_then : LineView → NodeEntry → Bool
 may_be_made_by_then view entry =
-    nat_le entry.front (ended view) && (is_none view.before || same_line opening entry.by || same_line view.by entry.by || ran_before entry.by view.before)
+    nat_le entry.front (front_ended view) && (is_none view.before || same_line opening entry.by || same_line view.by entry.by || ran_before entry.by view.before)
 
 -- whether a history parts at a time within a collection: its first entries may have been made by then, and the others weren't made before it
 abbrev pub parts_within : LineView → List NodeEntry → List NodeEntry → Bool
@@ -91,9 +91,9 @@ is_kept_at_node inc c view None = true
 is_kept_at_node inc c view (Some history) = some_parting (λ earlier later. parts_within view earlier later && may_keep inc c (service earlier)) [] history
 
 -- whether an incarnation may hold a commit in a collection: at some time within it, it was the first that was up and had not given the commit up, and at some time within it its node need not have
-abbrev pub may_hold : Incarnation → Commit → LineView → Bool
-may_hold who c view =
-    some_prefix (is_first_to_keep who c.id) (begun view) (ended view) view.ran.trace.door
+abbrev pub could_hold : Incarnation → Commit → LineView → Bool
+could_hold who c view =
+    some_prefix (is_first_to_keep who c.id) (front_begun view) (front_ended view) view.ran.trace.door
     && is_kept_at_node who.inc c view (at_place (who.node - 1) view.ran.trace.nodes)
 
 -- ---- verdicts
@@ -102,7 +102,7 @@ may_hold who c view =
 abbrev pub is_verdict_of : WorkEnd → Verdict → Commit → LineView → Bool
 is_verdict_of IsRetired verdicts.Retired c view = true
 is_verdict_of IsFaulted verdicts.Fault c view = true
-is_verdict_of IsHeld (verdicts.Held node inc) c view = may_hold (incarnation node inc) c view
+is_verdict_of IsHeld (verdicts.Held node inc) c view = could_hold (incarnation node inc) c view
 is_verdict_of end verdict c view = false
 
 -- whether a commit was judged by the end of its turns

@@ -87,8 +87,8 @@ abbrev pub is_silent_turn : Option NodeTurn → Bool
 is_silent_turn (Some turn) = is_silent turn.entry.answer
 is_silent_turn None = false
 
-abbrev pub goes_on : LineView → Bool
-goes_on view = is_silent_turn (first_node_turn view)
+abbrev pub went_on : LineView → Bool
+went_on view = is_silent_turn (first_node_turn view)
 
 -- ---- what it found
 
@@ -125,8 +125,8 @@ abbrev pub is_fixed : (Commit → Bool) → Option Commit → Bool
 is_fixed test (Some c) = test c
 is_fixed test None = false
 
-abbrev pub settles : (Commit → Bool) → LineView → Bool
-settles test view = is_fixed test (fixed_for view.command view)
+abbrev pub is_for_fixed : (Commit → Bool) → LineView → Bool
+is_for_fixed test view = is_fixed test (fixed_for view.command view)
 
 -- whether a command is a commit, and whether it is an abort
 abbrev pub is_commit : Command → Bool
