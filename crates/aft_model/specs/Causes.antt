@@ -1,5 +1,5 @@
 -- Why a line answers what it does: for each reply its cause in the line as it ran, and whether the reply comes wherever its cause is.
-use Rattle.std.specs.Prelude.{Bool, true, false, ◌&&◌, ◌||◌, IsTrue}
+use Rattle.std.specs.Prelude.{Bool, true, false, not, ◌&&◌, ◌||◌, IsTrue}
 use Rattle.std.specs.Cmp.Lexicographic.{pointwise}
 use Rattle.aft_model.specs.declared.reply.Reply.{Reply}
 use Rattle.aft_model.specs.declared.reply.Reply.TheVariants.{Begun, Joined, Committed, Busy, Stored, Own, Value, Absent, NoValidVersion, Missing, Damaged, Ended, Aborted, StoreFault, InDoubt, NodeDown, NoTransaction, Committing, TooManyKeys, OpenReads, ClockEnd, Crashed, NotUp, Started, IsUp, IsBooting, TooManyRecords, Announced, Learned, Dropped, Managed, Collected, Collecting, NoMemory}
@@ -85,6 +85,10 @@ abbrev pub same_but_holders : Reply → Reply → Bool
 same_but_holders (Collected judged) (Collected judged') = pointwise (λ a b. same_id a.id b.id && same_but_holder a.verdict b.verdict) judged judged'
 same_but_holders a b = same_reply a b
 
+-- whether a line's reply leaves this other one out rightly: the other doesn't come exactly where its cause is, or the line lacks its cause, or it is the reply, or it yields to the reply
+abbrev pub may_leave_out : LineView → Reply → Reply → Bool
+may_leave_out view reply other = not (comes_exactly other && cause view other) || same_but_holders reply other || yields_to reply
+
 -- a reply that leaves out no other: each that comes exactly where its cause is, and whose cause the line has, is this one, or yields to it
 abbrev pub ExactlyCaused : LineView → Reply → Type 0
-ExactlyCaused view reply = (other : Reply) → IsTrue (comes_exactly other && cause view other) → IsTrue (same_but_holders reply other || yields_to reply)
+ExactlyCaused view reply = (other : Reply) → IsTrue (may_leave_out view reply other)

@@ -1,5 +1,5 @@
 -- The causes of what a collection answers: a verdict for each commit of its work list, by how the turns for it ended. A commit is held where its full marker was refused: then an incarnation had not given it up, and this is what may be said of that.
-use Rattle.std.specs.Prelude.{ℕ, nat_lt, nat_le, ◌-◌, ◌==◌, ◌&&◌, ◌||◌, Bool, true, false, not, List, [], ◌∷◌, ◌++◌, Option, Some, None, is_none, unwrap_or}
+use Rattle.std.specs.Prelude.{ℕ, nat_lt, nat_le, ◌-◌, ◌==◌, ◌&&◌, ◌||◌, Bool, true, false, not, List, [], ◌∷◌, ◌++◌, take, Option, Some, None, is_none, unwrap_or}
 use Rattle.std.specs.Cmp.Lexicographic.{pointwise}
 use Rattle.std.specs.List.{list_any, list_all, flat_map, last_or}
 use Rattle.aft_id.specs.declared.txn_id.TxnId.{TxnId}
@@ -29,7 +29,7 @@ use Rattle.aft_model.specs.Readings.{same_id}
 use Rattle.aft_model.specs.ScanCourse.{Scanned, scanned}
 use Rattle.aft_model.specs.ScanRun.{same_line}
 use Rattle.aft_model.specs.Sound.{records_prefix, markers_prefix}
-use Rattle.aft_model.specs.Turns.{Turn, AtOffice}
+use Rattle.aft_model.specs.Turns.{Turn, AtOffice, end_front}
 
 -- ---- who may hold a commit
 
@@ -132,7 +132,7 @@ is_worked_through judged view work = not (was_cut work.ended) && pointwise (is_j
 -- whether turns are those of a collection that began, was shown all records and all markers, and came to its end with these verdicts
 abbrev pub is_collected_by : List Judged → LineView → List Turn → Bool
 is_collected_by judged view (AtOffice before entry ∷ line) =
-    begins_collection entry.act && is_scanned_whole line && is_worked_through judged view (collection (node_numbers view.settings) line)
+    begins_collection entry.act && is_scanned_whole line && is_worked_through judged view (collection (take (end_front line) view.ran.trace.door) (node_numbers view.settings) line)
 is_collected_by judged view line = false
 
 -- collected: the line's scan runs were whole, and each commit of its work list has its verdict, in id order

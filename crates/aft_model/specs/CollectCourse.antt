@@ -1,5 +1,5 @@
 -- The course of a collection: what it scans, its work list, and for each commit of it the turns that retire it.
-use Rattle.std.specs.Prelude.{ℕ, ◌==◌, ◌&&◌, ◌||◌, Bool, true, false, not, List, [], ◌∷◌, ◌++◌, filter, map, Option, if◌then◌else◌}
+use Rattle.std.specs.Prelude.{ℕ, ◌==◌, ◌&&◌, ◌||◌, Bool, true, false, not, List, [], ◌∷◌, ◌++◌, take, filter, map, Option, Some, None, if◌then◌else◌}
 use Rattle.std.specs.List.{list_any, flat_map, fold}
 use Rattle.std.specs.Str.{bytes_eq}
 use Rattle.aft_id.specs.TxnId.{id_lt}
@@ -12,21 +12,24 @@ use Rattle.aft_records.specs.declared.stored.Commit.{Commit}
 use Rattle.aft_records.specs.declared.stored.Marker.{Marker}
 use Rattle.aft_records.specs.declared.stored.Marker.TheVariants.{Full, Done}
 use Rattle.aft_model.specs.declared.door.DoorAct.TheVariants as door_acts
+use Rattle.aft_model.specs.declared.door.DoorEntry.{DoorEntry}
 use Rattle.aft_model.specs.declared.node.NodeAct.{NodeAct}
 use Rattle.aft_model.specs.declared.node.NodeAct.TheVariants as node_acts
 use Rattle.aft_model.specs.declared.node.NodeEntry.{NodeEntry}
 use Rattle.aft_model.specs.declared.office.OfficeAct.{OfficeAct}
 use Rattle.aft_model.specs.declared.office.OfficeAct.TheVariants as office_acts
 use Rattle.aft_model.specs.declared.reply.Reply.{Reply}
+use Rattle.aft_model.specs.declared.reply.Reply.TheVariants as replies
 use Rattle.aft_model.specs.CommitCourse.{is_acknowledged}
 use Rattle.aft_model.specs.Committed.{retired_by}
 use Rattle.aft_model.specs.CourseWords.{is_over, ends_at_office, tells_no_memory}
-use Rattle.aft_model.specs.Membership.{the_office, incarnation, same_incarnation}
-use Rattle.aft_model.specs.NodeState.{node_state, serves}
+use Rattle.aft_model.specs.Membership.{Incarnation, the_office, incarnation, same_incarnation}
+use Rattle.aft_model.specs.NodeSights.{is_fenced}
+use Rattle.aft_model.specs.NodeState.{Service, service}
 use Rattle.aft_model.specs.Readings.{same_id, same_commit, record_name, version_name, markers_in}
 use Rattle.aft_model.specs.ScanCourse.{Scanned, scanned}
 use Rattle.aft_model.specs.Sound.{records_prefix, markers_prefix, recorded}
-use Rattle.aft_model.specs.Turns.{Turn, AtDoor, AtNode, AtOffice}
+use Rattle.aft_model.specs.Turns.{Turn, AtDoor, AtNode, AtOffice, end_front}
 
 -- ---- the work list
 
@@ -115,25 +118,31 @@ abbrev pub is_give_up : TxnId → NodeAct → Bool
 is_give_up id (node_acts.GiveUp given) = same_id id given
 is_give_up id act = false
 
--- behind a node's give-up: that of the door, by the incarnation that serves there; it makes no entry where the incarnation was fenced
-abbrev pub at_door_too : TxnId → ℕ → List NodeEntry → List Turn → List Turn
-at_door_too id node before (AtDoor place (door_acts.GiveUp at inc given) ∷ line) =
-    if node == at && serves inc (node_state before) && same_id id given then line else AtDoor place (door_acts.GiveUp at inc given) ∷ line
-at_door_too id node before line = line
+-- behind a node's give-up: that of the door, by the incarnation that serves there. It makes no entry where the line's last turn has seen the incarnation fenced; else memory was wanting
+abbrev pub at_door_too : List DoorEntry → Incarnation → TxnId → (List Turn → Worked) → List Turn → Worked
+at_door_too seen who id go_on (AtDoor place (door_acts.GiveUp node inc given) ∷ line) =
+    if same_incarnation who (incarnation node inc) && same_id id given then go_on line else worked IsCut (AtDoor place (door_acts.GiveUp node inc given) ∷ line)
+at_door_too seen who id go_on line = if is_fenced who seen then go_on line else worked IsCut line
 
--- the turns behind the give-ups of a node, if it made one, at the node and then at the door
-abbrev pub behind_give_up : TxnId → ℕ → List Turn → List Turn
-behind_give_up id node (AtNode at before entry ∷ line) =
-    if node == at && is_give_up id entry.act then at_door_too id node before line else AtNode at before entry ∷ line
-behind_give_up id node line = line
+-- the incarnation of a node in this service
+abbrev pub served_by : ℕ → Option Service → Incarnation
+served_by node None = incarnation node 0
+served_by node (Some serving) = incarnation node serving.inc
 
--- the first part: the nodes give the commit up, in order, and then its full marker is put
-abbrev pub marks_commit : List ℕ → Commit → List Turn → Worked
-marks_commit nodes c line = marks (Full c) IsHeld (removes_all c) (fold (λ left node. behind_give_up c.id node left) line nodes)
+-- the give-up of a node, if it made one, at the node and then at the door
+abbrev pub gives_up_at : List DoorEntry → TxnId → ℕ → (List Turn → Worked) → List Turn → Worked
+gives_up_at seen id node go_on (AtNode at before entry ∷ line) =
+    if node == at && is_give_up id entry.act then at_door_too seen (served_by node (service before)) id go_on line else go_on (AtNode at before entry ∷ line)
+gives_up_at seen id node go_on line = go_on line
+
+-- the first part: these nodes give the commit up, in order, and then its full marker is put; where it makes no entry an incarnation had not given it up, or memory was wanting
+abbrev pub marks_commit : List DoorEntry → Commit → List ℕ → List Turn → Worked
+marks_commit seen c [] line = marks (Full c) IsHeld (removes_all c) line
+marks_commit seen c (node ∷ nodes) line = gives_up_at seen c.id node (marks_commit seen c nodes) line
 
 -- the turns for a commit of the work list; where its full marker was shown, the first part is left out
-abbrev pub works_on : List ℕ → Work → List Turn → Worked
-works_on nodes work line = if work.is_marked then removes_all work.commit line else marks_commit nodes work.commit line
+abbrev pub works_on : List DoorEntry → List ℕ → Work → List Turn → Worked
+works_on seen nodes work line = if work.is_marked then removes_all work.commit line else marks_commit seen work.commit nodes line
 
 -- ---- the whole collection
 
@@ -157,23 +166,23 @@ abbrev pub with_ended : Ended → Collection → Collection
 with_ended ended collection = record { ended = ended ∷ collection.ended; behind = collection.behind }
 
 -- the turns for a work list, in order, up to the first that was cut short
-abbrev pub works_through : List ℕ → List Work → List Turn → Collection
-works_through nodes [] line = record { ended = []; behind = line }
-works_through nodes (work ∷ works) line =
-    with_ended (record { commit = work.commit; end = (works_on nodes work line).end })
-    (if is_cut (works_on nodes work line).end then record { ended = []; behind = (works_on nodes work line).behind }
-    else works_through nodes works (works_on nodes work line).behind)
+abbrev pub works_through : List DoorEntry → List ℕ → List Work → List Turn → Collection
+works_through seen nodes [] line = record { ended = []; behind = line }
+works_through seen nodes (work ∷ works) line =
+    with_ended (record { commit = work.commit; end = (works_on seen nodes work line).end })
+    (if is_cut (works_on seen nodes work line).end then record { ended = []; behind = (works_on seen nodes work line).behind }
+    else works_through seen nodes works (works_on seen nodes work line).behind)
 
 -- behind both scan runs, if they were whole: the work list's turns
-abbrev pub behind_scans : List ℕ → Scanned → Scanned → Collection
-behind_scans nodes records markers =
-    if markers.is_whole then works_through nodes (work_list records.listed markers.listed) markers.behind else record { ended = []; behind = markers.behind }
+abbrev pub behind_scans : List DoorEntry → List ℕ → Scanned → Scanned → Collection
+behind_scans seen nodes records markers =
+    if markers.is_whole then works_through seen nodes (work_list records.listed markers.listed) markers.behind else record { ended = []; behind = markers.behind }
 
--- the collection of a line, behind its first turn: the scan run of records, that of markers, and the work
-abbrev pub collection : List ℕ → List Turn → Collection
-collection nodes line =
+-- the collection of a line, behind its first turn, whose last turn has seen this of the door: the scan run of records, that of markers, and the work
+abbrev pub collection : List DoorEntry → List ℕ → List Turn → Collection
+collection seen nodes line =
     if (scanned the_office records_prefix line).is_whole
-    then behind_scans nodes (scanned the_office records_prefix line) (scanned the_office markers_prefix (scanned the_office records_prefix line).behind)
+    then behind_scans seen nodes (scanned the_office records_prefix line) (scanned the_office markers_prefix (scanned the_office records_prefix line).behind)
     else record { ended = []; behind = (scanned the_office records_prefix line).behind }
 
 -- a collection ends at the office; where it was cut short, memory was wanting
@@ -185,13 +194,18 @@ is_collected cut act answer = false
 abbrev pub was_cut : List Ended → Bool
 was_cut ended = list_any (λ one. is_cut one.end) ended
 
--- after the first turn of a collection: it answered, or the collection runs to its end
-abbrev pub collect_after : List ℕ → OfficeAct → List Turn → Bool
-collect_after nodes office_acts.Nothing line = is_over line
-collect_after nodes office_acts.Collecting line = ends_at_office (is_collected (was_cut (collection nodes line).ended)) (collection nodes line).behind
-collect_after nodes act line = false
+-- whether a reply tells that another collection runs
+abbrev pub tells_collecting : Option Reply → Bool
+tells_collecting (Some replies.Collecting) = true
+tells_collecting answer = false
+
+-- after the first turn of a collection: another one runs, or the collection runs to its end
+abbrev pub collect_after : List DoorEntry → List ℕ → OfficeAct → Option Reply → List Turn → Bool
+collect_after seen nodes office_acts.Nothing answer line = is_over line && tells_collecting answer
+collect_after seen nodes office_acts.Collecting answer line = ends_at_office (is_collected (was_cut (collection seen nodes line).ended)) (collection seen nodes line).behind
+collect_after seen nodes act answer line = false
 
 -- the course of a collection over these nodes
-abbrev pub collect_course : List ℕ → List Turn → Bool
-collect_course nodes (AtOffice before entry ∷ line) = collect_after nodes entry.act line
-collect_course nodes line = false
+abbrev pub collect_course : List ℕ → List DoorEntry → List Turn → Bool
+collect_course nodes door (AtOffice before entry ∷ line) = collect_after (take (end_front line) door) nodes entry.act entry.answer line
+collect_course nodes door line = false

@@ -1,5 +1,5 @@
 -- The course of a line: the turns that each kind of line makes, in order, and where it stops.
-use Rattle.std.specs.Prelude.{ℕ, ◌==◌, ◌&&◌, Bool, true, false, not, List, [], ◌∷◌, Option, Some, None, is_some}
+use Rattle.std.specs.Prelude.{ℕ, ◌==◌, ◌&&◌, ◌||◌, Bool, true, false, not, List, [], ◌∷◌, Option, is_some}
 use Rattle.aft_model.specs.declared.door.DoorAct.TheVariants as door_acts
 use Rattle.aft_model.specs.declared.door.DoorEntry.{DoorEntry}
 use Rattle.aft_model.specs.declared.node.NodeAct.{NodeAct}
@@ -15,27 +15,39 @@ use Rattle.aft_model.specs.CollectCourse.{collect_course}
 use Rattle.aft_model.specs.CommitCourse.{finish_course}
 use Rattle.aft_model.specs.CourseWords.{is_over, ends_at_node, ends_at_office, is_cut_off}
 use Rattle.aft_model.specs.Membership.{Incarnation, the_office, incarnation, same_incarnation}
+use Rattle.aft_model.specs.NodeState.{NodeState, node_state, boots, serves}
+use Rattle.aft_model.specs.Replies.{is_answer}
 use Rattle.aft_model.specs.ScanCourse.{Scanned, scanned}
 use Rattle.aft_model.specs.Sound.{records_prefix}
 use Rattle.aft_model.specs.Turns.{Turn, AtDoor, AtNode, AtOffice, answer_in}
 
 -- ---- crash and start
 
--- a node goes down as this incarnation, or tells that it did
-abbrev pub goes_down : ℕ → ℕ → NodeAct → Option Reply → Bool
-goes_down node inc (node_acts.Down other) answer = inc == other
-goes_down node inc node_acts.Nothing (Some (replies.Crashed at other)) = node == at && inc == other
-goes_down node inc act answer = false
+-- a node that boots or serves as this incarnation goes down; one that doesn't any more answers alone that the incarnation was shut out
+abbrev pub goes_down : ℕ → ℕ → NodeState → NodeAct → Option Reply → Bool
+goes_down node inc state (node_acts.Down other) answer = inc == other
+goes_down node inc state node_acts.Nothing answer = not (boots inc state || serves inc state) && is_answer (replies.Crashed node inc) answer
+goes_down node inc state act answer = false
+
+-- the end of a crash that fenced this incarnation
+abbrev pub ends_down : ℕ → ℕ → List Turn → Bool
+ends_down node inc (AtNode at before entry ∷ []) = node == at && goes_down node inc (node_state before) entry.act entry.answer
+ends_down node inc line = false
+
+-- an answer alone that no incarnation is up
+abbrev pub tells_not_up : ℕ → NodeAct → Option Reply → Bool
+tells_not_up node node_acts.Nothing answer = is_answer (replies.NotUp node) answer
+tells_not_up node act answer = false
 
 -- an answer alone
 abbrev pub only_answers : NodeAct → Option Reply → Bool
 only_answers node_acts.Nothing answer = true
 only_answers act answer = false
 
--- the course of a crash of a node: the fence, if an incarnation is up, and then the node goes down
+-- the course of a crash of a node: the fence, and then the node goes down; where none is up it is answered so
 abbrev pub crash_course : ℕ → List Turn → Bool
-crash_course node (AtDoor place (door_acts.Fence at inc) ∷ line) = node == at && ends_at_node node (goes_down node inc) line
-crash_course node line = ends_at_node node only_answers line
+crash_course node (AtDoor place (door_acts.Fence at inc) ∷ line) = node == at && ends_down node inc line
+crash_course node line = ends_at_node node (tells_not_up node) line
 
 -- a boot serves, where its scan run was whole, or is stopped, or the node doesn't boot this incarnation any more
 abbrev pub ends_boot : ℕ → Bool → NodeAct → Option Reply → Bool
@@ -142,7 +154,7 @@ follows_course (commands.Announce node) nodes door line = announce_course line
 follows_course (commands.Deliver node) nodes door line = single_course learns_or_answers line
 follows_course (commands.Local node) nodes door line = single_course drops_or_answers line
 follows_course commands.Manager nodes door line = manager_course line
-follows_course commands.Collect nodes door line = collect_course nodes line
+follows_course commands.Collect nodes door line = collect_course nodes door line
 
 -- whether a line keeps its course: it ends with its answer, and its turns are those of its command, in order
 abbrev pub keeps_course : Command → List ℕ → List DoorEntry → List Turn → Bool

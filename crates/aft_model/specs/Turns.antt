@@ -87,3 +87,13 @@ replies_in turn = option_to_list (answer_in turn)
 
 abbrev pub replies_of : List Turn → List Reply
 replies_of line = flat_map replies_in line
+
+-- the front of a turn, or 0 at the door
+abbrev pub front_in : Turn → ℕ
+front_in (AtDoor place act) = 0
+front_in (AtNode node before entry) = entry.front
+front_in (AtOffice before entry) = entry.front
+
+-- the front of the last of some turns, or 0
+abbrev pub end_front : List Turn → ℕ
+end_front line = fold (λ before turn. front_in turn) 0 line
