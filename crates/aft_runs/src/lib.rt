@@ -8,4 +8,4 @@ mod reading;
 
 pub use background::{pinned, told};
 pub use failing::faults;
-pub use reading::reads;
+pub use reading::{reads, reads_beside};
