@@ -1,0 +1,86 @@
+-- Runs in which what is dropped or given up is left open: as the rules say they are legal, and otherwise they are refused.
+use Rattle.std.specs.Prelude.{◌+◌, List, [], ◌∷◌, ◌++◌, length}
+use Rattle.aft_records.specs.declared.stored.Commit.{Commit}
+use Rattle.aft_model.specs.declared.node.NodeAct.TheVariants as turns
+use Rattle.aft_model.specs.declared.node.NodeEntry.{NodeEntry}
+use Rattle.aft_histories.specs.Entries.{x}
+use Rattle.aft_runs.specs.Entries.{turn}
+use Rattle.aft_runs.specs.Lines.{opening, opens, boots, attempt, begins, puts, fetches, commits, doubts, leaves}
+use Rattle.aft_runs.specs.Pinned.{older, newer}
+use Rattle.aft_runs.specs.Rounds.{drops, collects, gives_up, retires, collected, held, retired}
+use Rattle.aft_runs.specs.Words.{Writes, write, writes, a, b, commit_of}
+use Rattle.aft_runs.specs.Works.{Work, Run, run, by, at, nodes}
+
+-- ---- local rounds
+
+-- a transaction has read a commit, and another has superseded it; then this is done, and the node drops these commits
+abbrev pub drops_behind : List Work → List Commit → Run
+drops_behind earlier dropped = run (nodes 1) (
+    opens
+    ∷ boots 3 opening 1 1 []
+    ∷ begins 5 (by 1 1) (attempt 1 1 1) 1
+    ∷ puts 8 (by 1 2) (attempt 1 1 1) (write x a)
+    ∷ commits 8 (by 1 3) (attempt 1 1 1) older
+    ∷ begins 11 (by 2 4) (attempt 1 1 2) 2
+    ∷ fetches 14 (by 2 5) (attempt 1 1 2) older.id (write x a)
+    ∷ begins 15 (by 1 6) (attempt 1 1 3) 3
+    ∷ puts 18 (by 1 7) (attempt 1 1 3) (write x b)
+    ∷ commits 18 (by 1 8) (attempt 1 1 3) newer
+    ∷ earlier ++ drops (21 + length earlier) (by 1 10) 1 dropped ∷ [])
+
+-- the reader leaves
+abbrev pub reader_leaves : List Work
+reader_leaves = leaves 21 (by 2 9) (attempt 1 1 2) 2 ∷ []
+
+-- the superseded commit
+abbrev pub the_older : List Commit
+the_older = commit_of older ∷ []
+
+-- ---- give-ups
+
+-- a commit that supersedes the older one, of a node that doesn't know the older one
+abbrev pub beside : Writes
+beside = writes 1000 3 (write x b ∷ [])
+
+-- a node doesn't know whether a commit of its own is stored, and another supersedes it; then a collection comes to the older one, and does this
+abbrev pub collects_in_doubt : List Work → Run
+collects_in_doubt work = run (nodes 1) (
+    opens
+    ∷ boots 3 opening 1 1 []
+    ∷ begins 5 (by 1 1) (attempt 1 1 1) 1
+    ∷ puts 8 (by 1 2) (attempt 1 1 1) (write x a)
+    ∷ doubts 8 (by 1 3) (attempt 1 1 1) older
+    ∷ begins 11 (by 2 4) (attempt 1 1 2) 3
+    ∷ puts 14 (by 2 5) (attempt 1 1 2) (write x b)
+    ∷ commits 14 (by 2 6) (attempt 1 1 2) beside
+    ∷ collects 17 (by 2 7) (commit_of older ∷ commit_of beside ∷ [])
+    ∷ work)
+
+-- it finds that the node holds the older one
+abbrev pub finds_held : List Work
+finds_held = collected 19 (by 2 7) (held older.id 1 1 ∷ []) ∷ []
+
+-- the node gives it up, and it is retired
+abbrev pub gives_up_doubt : List Work
+gives_up_doubt = gives_up 19 (by 2 7) 1 1 older.id ∷ retires (by 2 7) (commit_of older) ∷ collected 24 (by 2 7) (retired older.id ∷ []) ∷ []
+
+-- a node has dropped a superseded commit; a collection has its give-up at the door, with this at the node, and retires it
+abbrev pub collects_with : List NodeEntry → Run
+collects_with given = run (nodes 1) (
+    opens
+    ∷ boots 3 opening 1 1 []
+    ∷ begins 5 (by 1 1) (attempt 1 1 1) 1
+    ∷ puts 8 (by 1 2) (attempt 1 1 1) (write x a)
+    ∷ commits 8 (by 1 3) (attempt 1 1 1) older
+    ∷ begins 11 (by 1 4) (attempt 1 1 2) 3
+    ∷ puts 14 (by 1 5) (attempt 1 1 2) (write x b)
+    ∷ commits 14 (by 1 6) (attempt 1 1 2) newer
+    ∷ drops 17 (by 1 7) 1 the_older
+    ∷ collects 17 (by 1 8) (commit_of older ∷ commit_of newer ∷ [])
+    ∷ record (gives_up 19 (by 1 8) 1 1 older.id) { nodes = at 1 given }
+    ∷ retires (by 1 8) (commit_of older)
+    ∷ collected 24 (by 1 8) (retired older.id ∷ []) ∷ [])
+
+-- the node's give-up
+abbrev pub node_gives_up : NodeEntry
+node_gives_up = turn 19 (by 1 8) (turns.GiveUp older.id)
