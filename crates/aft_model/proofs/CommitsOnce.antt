@@ -1,11 +1,8 @@
 -- An id commits once: what holds of each UUID after the whole of a history.
-use Rattle.std.proofs.Common.{◌≡◌, ℕ, ◌||◌, not, List, [], ◌∷◌, ◌++◌, refl, sym, ap, subst, ◌∙◌, ◌⊎◌, inl, inr, eqb, append_assoc, append-nil}
+use Rattle.std.proofs.Common.{◌≡◌, ℕ, ◌||◌, not, List, [], ◌∷◌, ◌++◌, sym, ap, subst, ◌∙◌, ◌⊎◌, inl, inr, append_assoc, append-nil}
 use Rattle.std.specs.Prelude.{IsTrue, IsFalse, Some}
-use Rattle.std.specs.Cmp.Lexicographic.{pointwise}
 use Rattle.std.specs.List.{list_any}
-use Rattle.std.specs.Str.{bytes_eq}
-use Rattle.std.proofs.lemmas.Bool.{and_parts, or_cases, eqb-true, false≢true, false_from_ne_true}
-use Rattle.aft_id.specs.declared.txn_id.TxnId.{TxnId}
+use Rattle.std.proofs.lemmas.Bool.{and_parts, or_cases, false≢true, false_from_ne_true}
 use Rattle.aft_keeper.specs.declared.keeper.KeeperAnswer.{KeeperAnswer}
 use Rattle.aft_keeper.specs.declared.keeper.KeeperCall.TheVariants.{Put}
 use Rattle.aft_keeper.specs.declared.keeper.Pair.{Pair}
@@ -25,34 +22,13 @@ use Rattle.aft_model.specs.LegalDoor.{Legal, may_come, may_follow}
 use Rattle.aft_model.specs.MayHold.{may_hold}
 use Rattle.aft_model.specs.Membership.{Incarnation, is_up}
 use Rattle.aft_model.specs.Opening.{may_read}
-use Rattle.aft_model.specs.Readings.{same_id, same_commit, record_name, records_in, versions_in, markers_in}
+use Rattle.aft_model.specs.Readings.{same_commit, record_name, records_in, versions_in, markers_in}
 use Rattle.aft_model.proofs.Histories.{In, any_found, all_at, each_after_snoc}
 use Rattle.aft_model.proofs.Honesty.{honest_about}
+use Rattle.aft_model.proofs.Ids.{same_commits}
 use Rattle.aft_model.proofs.OneCommit.{Once, once_at_first, once_after, PutsWhenClear}
 use Rattle.aft_model.proofs.Sights.{same_bytes, read-name, read-one, no_version, no_marker, commits_at}
 use Rattle.aft_model.proofs.Turns.{by_rule, held_up, Turn, turn_at_first, turn_after}
-
--- ---- commits that are the same
-
-same_keys : (a b : List (List ℕ)) → IsTrue (pointwise bytes_eq a b) → a ≡ b
-same_keys [] [] same = refl
-same_keys [] (y ∷ ys) same = absurd (false≢true same)
-same_keys (x ∷ xs) [] same = absurd (false≢true same)
-same_keys (x ∷ xs) (y ∷ ys) same =
-    let parts = and_parts (bytes_eq x y) (pointwise bytes_eq xs ys) same in
-    ap (λ z. z ∷ xs) (same_bytes x y parts.0) ∙ ap (λ zs. y ∷ zs) (same_keys xs ys parts.1)
-
-same_ids : (a b : TxnId) → IsTrue (same_id a b) → a ≡ b
-same_ids a b same =
-    let parts = and_parts (eqb a.time b.time) (bytes_eq a.uuid b.uuid) same in
-    let id : ℕ → List ℕ → TxnId = λ t u. record { time = t; uuid = u } in
-    ap (λ t. id t a.uuid) (eqb-true a.time b.time parts.0) ∙ ap (λ u. id b.time u) (same_bytes a.uuid b.uuid parts.1)
-
-same_commits : (a b : Commit) → IsTrue (same_commit a b) → a ≡ b
-same_commits a b same =
-    let parts = and_parts (same_id a.id b.id) (pointwise bytes_eq a.keys b.keys) same in
-    let commit : TxnId → List (List ℕ) → Commit = λ i k. record { id = i; keys = k } in
-    ap (λ i. commit i a.keys) (same_ids a.id b.id parts.0) ∙ ap (λ k. commit b.id k) (same_keys a.keys b.keys parts.1)
 
 -- ---- the rule of puts
 

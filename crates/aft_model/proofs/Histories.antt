@@ -98,3 +98,32 @@ each_after_snoc rule before (y ∷ ys) x passed =
     let parts = and_parts (rule before y) (each_after rule (before ++ y ∷ []) (ys ++ x ∷ [])) passed in
     let rest = each_after_snoc rule (before ++ y ∷ []) ys x parts.1 in
     (and_from _ _ parts.0 rest.0, subst (λ h. IsTrue (rule h x)) (append_assoc before (y ∷ []) ys) rest.1)
+
+-- a rule that each entry of a history and of what follows it passes
+pub each_after_split : {A : Type 0} (rule : List A → A → Bool) (before xs ys : List A) → IsTrue (each_after rule before (xs ++ ys))
+    → IsTrue (each_after rule before xs) × IsTrue (each_after rule (before ++ xs) ys)
+each_after_split rule before [] ys passed = (refl, subst (λ h. IsTrue (each_after rule h ys)) (sym (append-nil before)) passed)
+each_after_split rule before (x ∷ xs) ys passed =
+    let parts = and_parts (rule before x) (each_after rule (before ++ x ∷ []) (xs ++ ys)) passed in
+    let rest = each_after_split rule (before ++ x ∷ []) xs ys parts.1 in
+    (and_from _ _ parts.0 rest.0, subst (λ h. IsTrue (each_after rule h ys)) (append_assoc before (x ∷ []) xs) rest.1)
+
+each_after_more : {A : Type 0} (rule : List A → A → Bool) (before xs : List A) (x : A) → IsTrue (each_after rule before xs) → IsTrue (rule (before ++ xs) x)
+    → IsTrue (each_after rule before (xs ++ x ∷ []))
+each_after_more rule before [] x passed last = and_from _ _ (subst (λ h. IsTrue (rule h x)) (append-nil before) last) refl
+each_after_more rule before (y ∷ ys) x passed last =
+    let parts = and_parts (rule before y) (each_after rule (before ++ y ∷ []) ys) passed in
+    and_from _ _ parts.0 (each_after_more rule (before ++ y ∷ []) ys x parts.1 (subst (λ h. IsTrue (rule h x)) (sym (append_assoc before (y ∷ []) ys)) last))
+
+-- what each entry that passes a rule keeps, a longer history keeps
+pub each_after_kept : {A : Type 0} (rule : List A → A → Bool) (P : List A → Type 0)
+    → ((history : List A) (x : A) → IsTrue (each_after rule [] history) → IsTrue (rule history x) → P history → P (history ++ x ∷ []))
+    → (history more : List A) → IsTrue (each_after rule [] (history ++ more)) → P history → P (history ++ more)
+each_after_kept {A} rule P step history more passed holds = (let both = each_after_split rule [] history more passed in go history more both.0 both.1 holds)
+  where
+    go : (before xs : List A) → IsTrue (each_after rule [] before) → IsTrue (each_after rule before xs) → P before → P (before ++ xs)
+    go before [] sofar rest holds = subst P (sym (append-nil before)) holds
+    go before (x ∷ xs) sofar rest holds =
+        let parts = and_parts (rule before x) (each_after rule (before ++ x ∷ []) xs) rest in
+        subst P (append_assoc before (x ∷ []) xs)
+        (go (before ++ x ∷ []) xs (each_after_more rule [] before x sofar parts.0) parts.1 (step before x sofar parts.0 holds))

@@ -6,3 +6,11 @@ pub mod OneCommit
 pub mod Turns
 pub mod Honesty
 pub mod CommitsOnce
+pub mod Lists
+pub mod Ids
+pub mod Greatest
+pub mod Choices
+pub mod Services
+pub mod Knowledge
+pub mod Incarnations
+pub mod Pins

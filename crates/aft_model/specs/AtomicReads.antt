@@ -1,6 +1,6 @@
 -- Atomic read sets: what was read of a commit goes with what was read beside it.
-use Rattle.std.specs.Prelude.{ℕ, ◌&&◌, ◌||◌, Bool, not, List, IsTrue}
-use Rattle.std.specs.List.{list_any, list_all}
+use Rattle.std.specs.Prelude.{◌||◌, Bool, not, List, IsTrue}
+use Rattle.std.specs.List.{list_all}
 use Rattle.aft_records.specs.declared.stored.Commit.{Commit}
 use Rattle.aft_model.specs.declared.read_set.ReadPair.{ReadPair}
 use Rattle.aft_model.specs.Choice.{is_read_below}

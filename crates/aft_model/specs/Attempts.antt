@@ -1,5 +1,5 @@
 -- The attempts of a service, read off its part: what each is doing, what it has buffered and what it has read.
-use Rattle.std.specs.Prelude.{ℕ, ◌+◌, ◌-◌, ◌==◌, ◌&&◌, Bool, true, false, not, List, [], ◌∷◌, ◌++◌, length, map, filter, Option, Some, None, if◌then◌else◌}
+use Rattle.std.specs.Prelude.{ℕ, ◌-◌, ◌==◌, ◌&&◌, Bool, true, false, not, List, [], ◌∷◌, ◌++◌, length, map, filter, Option, Some, None, if◌then◌else◌}
 use Rattle.std.specs.List.{list_any, fold, flat_map}
 use Rattle.std.specs.Str.{bytes_eq}
 use Rattle.aft_id.specs.TxnId.{zero_id}

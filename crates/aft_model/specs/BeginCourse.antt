@@ -1,11 +1,10 @@
 -- The course of a begin and of a get: their turns, in order.
-use Rattle.std.specs.Prelude.{ℕ, ◌==◌, ◌&&◌, ◌||◌, Bool, true, false, List, [], ◌∷◌, Option, if◌then◌else◌}
+use Rattle.std.specs.Prelude.{ℕ, ◌==◌, ◌&&◌, ◌||◌, Bool, true, false, List, ◌∷◌, Option, if◌then◌else◌}
 use Rattle.std.specs.Str.{bytes_eq}
 use Rattle.aft_id.specs.declared.txn_id.TxnId.{TxnId}
 use Rattle.aft_keeper.specs.declared.keeper.KeeperAnswer.{KeeperAnswer}
 use Rattle.aft_keeper.specs.declared.keeper.KeeperCall.TheVariants.{Get}
 use Rattle.aft_model.specs.declared.caller.Attempt.{Attempt}
-use Rattle.aft_model.specs.declared.choice.Picked.{Picked}
 use Rattle.aft_model.specs.declared.choice.Picked.TheVariants as picked
 use Rattle.aft_model.specs.declared.door.DoorAct.TheVariants.{Call, Claim, Release}
 use Rattle.aft_model.specs.declared.door.DoorEntry.{DoorEntry}

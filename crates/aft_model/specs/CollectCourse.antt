@@ -19,7 +19,7 @@ use Rattle.aft_model.specs.declared.office.OfficeAct.{OfficeAct}
 use Rattle.aft_model.specs.declared.office.OfficeAct.TheVariants as office_acts
 use Rattle.aft_model.specs.declared.reply.Reply.{Reply}
 use Rattle.aft_model.specs.CommitCourse.{is_acknowledged}
-use Rattle.aft_model.specs.Committed.{is_among, retired_by}
+use Rattle.aft_model.specs.Committed.{retired_by}
 use Rattle.aft_model.specs.CourseWords.{is_over, ends_at_office, tells_no_memory}
 use Rattle.aft_model.specs.Membership.{the_office, incarnation, same_incarnation}
 use Rattle.aft_model.specs.NodeState.{node_state, serves}
@@ -162,7 +162,7 @@ works_through nodes [] line = record { ended = []; behind = line }
 works_through nodes (work ∷ works) line =
     with_ended (record { commit = work.commit; end = (works_on nodes work line).end })
     (if is_cut (works_on nodes work line).end then record { ended = []; behind = (works_on nodes work line).behind }
-     else works_through nodes works (works_on nodes work line).behind)
+    else works_through nodes works (works_on nodes work line).behind)
 
 -- behind both scan runs, if they were whole: the work list's turns
 abbrev pub behind_scans : List ℕ → Scanned → Scanned → Collection

@@ -1,5 +1,5 @@
 -- The course of a commit and of an abort: their turns, in order.
-use Rattle.std.specs.Prelude.{ℕ, ◌==◌, ◌&&◌, ◌||◌, Bool, true, false, List, [], ◌∷◌, Option, Some, None, if◌then◌else◌}
+use Rattle.std.specs.Prelude.{ℕ, ◌&&◌, ◌||◌, Bool, true, false, List, [], ◌∷◌, Option, Some, None, if◌then◌else◌}
 use Rattle.std.specs.List.{list_any}
 use Rattle.std.specs.Str.{bytes_eq}
 use Rattle.aft_keeper.specs.declared.keeper.KeeperAnswer.{KeeperAnswer}
@@ -18,7 +18,7 @@ use Rattle.aft_model.specs.declared.reply.Reply.TheVariants as replies
 use Rattle.aft_model.specs.Attempts.{Write, same_attempt, attempt_state, fixed_commit, buffer}
 use Rattle.aft_model.specs.BeginCourse.{caller_of, any_answer}
 use Rattle.aft_model.specs.CourseWords.{is_over, ends_at_node, ends_fenced, tells_down, tells_refused, is_cut_off, finds_record, finds_nothing}
-use Rattle.aft_model.specs.Membership.{Incarnation, incarnation, same_incarnation}
+use Rattle.aft_model.specs.Membership.{incarnation, same_incarnation}
 use Rattle.aft_model.specs.NodeSights.{uuid_of}
 use Rattle.aft_model.specs.NodeState.{part}
 use Rattle.aft_model.specs.Readings.{same_id, same_commit, record_name, is_record_of, versions_in}
@@ -131,8 +131,8 @@ abbrev pub settle_course : Bool → Storing → List DoorEntry → List Turn →
 settle_course aborts storing door (AtDoor place (Call node inc (Get name) answer) ∷ line) =
     gets_record storing node inc name
     && (if finds_record storing.commit answer then stored_course storing door line
-        else if finds_nothing answer then on_absence aborts storing door line
-        else ends_at_node storing.attempt.node (doubts storing.attempt any_answer) line)
+    else if finds_nothing answer then on_absence aborts storing door line
+    else ends_at_node storing.attempt.node (doubts storing.attempt any_answer) line)
 settle_course aborts storing door line = ends_at_node storing.attempt.node (doubts storing.attempt tells_refused) line
 
 -- an attempt leaves: the release and the end. A release makes no entry only where the incarnation was fenced, and then the node is answered to be down

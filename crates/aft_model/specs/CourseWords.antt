@@ -1,12 +1,8 @@
 -- Words on the course of a line: how it ends, and what its calls at the door are.
-use Rattle.std.specs.Prelude.{ℕ, ◌==◌, ◌&&◌, ◌||◌, Bool, true, false, List, [], ◌∷◌, take, Option, Some, None}
-use Rattle.std.specs.List.{list_any}
-use Rattle.std.specs.Str.{bytes_eq}
-use Rattle.aft_id.specs.declared.txn_id.TxnId.{TxnId}
+use Rattle.std.specs.Prelude.{ℕ, ◌==◌, ◌&&◌, ◌||◌, Bool, true, false, List, [], ◌∷◌, take, Option, Some}
 use Rattle.aft_keeper.specs.declared.keeper.KeeperAnswer.{KeeperAnswer}
 use Rattle.aft_keeper.specs.declared.keeper.KeeperAnswer.TheVariants.{Absent, Found}
 use Rattle.aft_records.specs.declared.stored.Commit.{Commit}
-use Rattle.aft_model.specs.declared.caller.Attempt.{Attempt}
 use Rattle.aft_model.specs.declared.door.DoorEntry.{DoorEntry}
 use Rattle.aft_model.specs.declared.node.NodeAct.{NodeAct}
 use Rattle.aft_model.specs.declared.node.NodeAct.TheVariants.{Nothing}
@@ -16,7 +12,7 @@ use Rattle.aft_model.specs.declared.reply.Reply.TheVariants.{Busy, NodeDown, NoM
 use Rattle.aft_model.specs.Membership.{Incarnation}
 use Rattle.aft_model.specs.NodeSights.{is_fenced}
 use Rattle.aft_model.specs.Readings.{is_record_of, record_name}
-use Rattle.aft_model.specs.Turns.{Turn, AtDoor, AtNode, AtOffice}
+use Rattle.aft_model.specs.Turns.{Turn, AtNode, AtOffice}
 
 -- whether no turn is left
 abbrev pub is_over : List Turn → Bool

@@ -11,7 +11,6 @@ use Rattle.aft_records.specs.Superseded.{wrote, is_superseded}
 use Rattle.aft_records.specs.declared.stored.Commit.{Commit}
 use Rattle.aft_model.specs.declared.caller.Attempt.{Attempt}
 use Rattle.aft_model.specs.declared.choice.Blocked.{Blocked}
-use Rattle.aft_model.specs.declared.choice.Picked.{Picked}
 use Rattle.aft_model.specs.declared.door.DoorAct.{DoorAct}
 use Rattle.aft_model.specs.declared.door.DoorAct.TheVariants.{Call}
 use Rattle.aft_model.specs.declared.door.DoorEntry.{DoorEntry}

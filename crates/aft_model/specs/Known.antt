@@ -8,13 +8,18 @@ use Rattle.aft_records.specs.Superseded.{wrote, is_superseded}
 use Rattle.aft_model.specs.declared.node.NodeAct.{NodeAct}
 use Rattle.aft_model.specs.declared.node.NodeAct.TheVariants.{Stored, Learn, Drop, Announce}
 use Rattle.aft_model.specs.declared.node.NodeEntry.{NodeEntry}
-use Rattle.aft_model.specs.Attempts.{AttemptState, attempt_state, fixed_commit, is_pinned, present}
+use Rattle.aft_model.specs.Attempts.{attempt_state, fixed_commit, is_pinned, present}
 use Rattle.aft_model.specs.NodeState.{Service, service}
 use Rattle.aft_model.specs.Readings.{same_id}
 
 -- whether a commit of this id is among these
 abbrev pub has_id : TxnId → List Commit → Bool
 has_id id commits = list_any (λ c. same_id id c.id) commits
+
+-- whether no two of some commits have one id
+abbrev pub has_each_id_once : List Commit → Bool
+has_each_id_once [] = true
+has_each_id_once (c ∷ commits) = not (has_id c.id commits) && has_each_id_once commits
 
 -- whether an id is among these
 abbrev pub is_listed : TxnId → List TxnId → Bool

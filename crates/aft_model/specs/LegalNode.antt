@@ -1,5 +1,5 @@
 -- Which histories a node may have, as far as this is said of the history alone.
-use Rattle.std.specs.Prelude.{ℕ, nat_le, nat_lt, ◌==◌, ◌&&◌, ◌||◌, Bool, true, not, List, [], length, Option, is_some, IsTrue}
+use Rattle.std.specs.Prelude.{ℕ, nat_le, nat_lt, ◌&&◌, ◌||◌, Bool, not, List, [], length, Option, is_some, IsTrue}
 use Rattle.std.specs.List.{fold}
 use Rattle.aft_model.specs.declared.node.NodeAct.{NodeAct}
 use Rattle.aft_model.specs.declared.node.NodeAct.TheVariants as acts
@@ -8,9 +8,9 @@ use Rattle.aft_model.specs.declared.reply.Reply.{Reply}
 use Rattle.aft_model.specs.declared.reply.Reply.TheVariants as replies
 use Rattle.aft_model.specs.Attempts.{attempt_state, open_reads, is_running, is_opening, is_committing, is_in_doubt}
 use Rattle.aft_model.specs.History.{each_after}
-use Rattle.aft_model.specs.Known.{holds_id, droppable}
-use Rattle.aft_model.specs.NodeRules.{may_begin_boot, is_boot_refusal, may_admit, is_begun, is_begin_refusal, may_put_key, pick, same_picked, answers_pick, is_value_of, is_fetch_refusal, may_start, may_leave, is_storing, is_doubt, is_end, counts, is_learned, are_ids_of, may_announce}
-use Rattle.aft_model.specs.NodeState.{Service, in_service, node_state, service, newest, boots, serves}
+use Rattle.aft_model.specs.Known.{has_each_id_once, holds_id, droppable}
+use Rattle.aft_model.specs.NodeRules.{may_begin_boot, is_boot_refusal, may_admit, is_begun, is_begin_refusal, may_put_key, pick, same_picked, answers_pick, is_value_of, is_fetch_refusal, may_start, may_leave, is_storing, is_doubt, is_end, is_own_end, counts, is_learned, are_ids_of, may_announce}
+use Rattle.aft_model.specs.NodeState.{Service, in_service, node_state, service, part, newest, boots, serves}
 use Rattle.aft_model.specs.Replies.{is_answer, is_silent}
 
 -- whether an act and its answer may come in a service of a node that keeps so many values
@@ -34,11 +34,11 @@ may_serve node capacity (acts.GiveUp id) answer serving = not (holds_id id servi
 may_serve node capacity (acts.Announce kept pruned) answer serving = may_announce serving kept pruned && is_silent answer
 may_serve node capacity act answer serving = is_some answer
 
--- whether an act and its answer may come after a node's history: a boot, an end of a service, an answer alone, or else by the rules of a service
+-- whether an act and its answer may come after a node's history: a boot, whose commits have each id once, an end of a service, an answer alone, or else by the rules of a service
 abbrev pub may_be_done : ℕ → ℕ → List NodeEntry → NodeAct → Option Reply → Bool
 may_be_done node capacity history acts.Nothing answer = is_some answer
 may_be_done node capacity history (acts.Booting inc) answer = may_begin_boot inc (newest history) (node_state history) && is_silent answer
-may_be_done node capacity history (acts.Boot inc commits) answer = boots inc (node_state history) && is_answer (replies.Started node inc) answer
+may_be_done node capacity history (acts.Boot inc commits) answer = boots inc (node_state history) && has_each_id_once commits && is_answer (replies.Started node inc) answer
 may_be_done node capacity history (acts.BootStopped inc) answer = boots inc (node_state history) && is_boot_refusal answer
 may_be_done node capacity history (acts.Down inc) answer = (boots inc (node_state history) || serves inc (node_state history)) && is_answer (replies.Crashed node inc) answer
 may_be_done node capacity history act answer = in_service (may_serve node capacity act answer) (service history)
@@ -47,9 +47,12 @@ may_be_done node capacity history act answer = in_service (may_serve node capaci
 abbrev pub front : List NodeEntry → ℕ
 front history = fold (λ before entry. entry.front) 0 history
 
--- whether an entry may follow a node's history: it has seen no less of the door's than the one before, and comes by its rule
+-- whether an entry may follow a node's history: it has seen no less of the door's than the one before, comes by its rule, and where it ends a commit, its line has stored that
 abbrev pub may_follow_at : ℕ → ℕ → List NodeEntry → NodeEntry → Bool
-may_follow_at node capacity history entry = nat_le (front history) entry.front && may_be_done node capacity history entry.act entry.answer
+may_follow_at node capacity history entry =
+    nat_le (front history) entry.front
+    && may_be_done node capacity history entry.act entry.answer
+    && is_own_end (part history) entry.by entry.act entry.answer
 
 -- whether each entry of a node's history may follow those before it
 abbrev pub is_legal_node : ℕ → ℕ → List NodeEntry → Bool

@@ -1,6 +1,6 @@
 -- Which histories may come of a run that asks this.
-use Rattle.std.specs.Prelude.{ℕ, suc, nat_le, nat_lt, ◌==◌, ◌-◌, ◌&&◌, ◌||◌, Bool, true, false, not, List, [], ◌∷◌, ◌++◌, length, map, filter, drop, Option, Some, None, IsTrue, if◌then◌else◌}
-use Rattle.std.specs.List.{list_any, list_all, flat_map}
+use Rattle.std.specs.Prelude.{ℕ, suc, nat_le, ◌==◌, ◌-◌, ◌&&◌, ◌||◌, Bool, true, false, not, List, [], ◌∷◌, ◌++◌, length, map, drop, Option, Some, None, IsTrue, if◌then◌else◌}
+use Rattle.std.specs.List.{list_any, list_all}
 use Rattle.std.specs.Str.{bytes_eq}
 use Rattle.aft_id.specs.declared.txn_id.TxnId.{TxnId}
 use Rattle.aft_model.specs.declared.caller.Attempt.{Attempt}
@@ -9,11 +9,9 @@ use Rattle.aft_model.specs.declared.caller.Hold.{Hold}
 use Rattle.aft_model.specs.declared.door.DoorAct.{DoorAct}
 use Rattle.aft_model.specs.declared.door.DoorAct.TheVariants as door_acts
 use Rattle.aft_model.specs.declared.door.DoorEntry.{DoorEntry}
-use Rattle.aft_model.specs.declared.mail.MailEntry.{MailEntry}
 use Rattle.aft_model.specs.declared.node.NodeAct.{NodeAct}
 use Rattle.aft_model.specs.declared.node.NodeAct.TheVariants as node_acts
 use Rattle.aft_model.specs.declared.node.NodeEntry.{NodeEntry}
-use Rattle.aft_model.specs.declared.office.OfficeEntry.{OfficeEntry}
 use Rattle.aft_model.specs.declared.script.Command.{Command}
 use Rattle.aft_model.specs.declared.script.Command.TheVariants as commands
 use Rattle.aft_model.specs.declared.script.Line.{Line}
@@ -28,7 +26,6 @@ use Rattle.aft_model.specs.LegalNode.{is_legal_node}
 use Rattle.aft_model.specs.LineCourse.{keeps_course}
 use Rattle.aft_model.specs.LinePosts.{keeps_mail}
 use Rattle.aft_model.specs.Lines.{lines, node_numbers, hold_before, whole_order}
-use Rattle.aft_model.specs.Membership.{incarnation}
 use Rattle.aft_model.specs.NodeSights.{is_seen_node}
 use Rattle.aft_model.specs.NodeState.{node_state, serves}
 use Rattle.aft_model.specs.Office.{is_legal_office}
@@ -37,6 +34,7 @@ use Rattle.aft_model.specs.OpeningCourse.{opening_course}
 use Rattle.aft_model.specs.Readings.{same_id}
 use Rattle.aft_model.specs.ScanRun.{same_line}
 use Rattle.aft_model.specs.Turns.{Turn, AtDoor, AtNode, AtOffice, turns}
+use Rattle.aft_model.specs.Views.{have_causes}
 
 -- ---- histories
 
@@ -278,3 +276,4 @@ pub record LegalTrace (asked : Asked) (ran : Ran) : Type 0 where
   pub clients : IsTrue (clients_in_order ran)
   pub whole_lines : IsTrue (ran_as_ordered ran (whole_order asked.order (lines asked)))
   pub give_ups : IsTrue (give_ups_backed ran.trace)
+  pub causes : IsTrue (have_causes asked ran)

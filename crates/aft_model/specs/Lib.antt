@@ -43,3 +43,14 @@ pub mod OpeningCourse
 pub mod LegalTrace
 pub mod RefusedTrace
 pub mod Headline
+pub mod LineView
+pub mod CausesScans
+pub mod CausesAttempts
+pub mod CausesReads
+pub mod CausesBegins
+pub mod CausesCommits
+pub mod CausesNodes
+pub mod CausesRounds
+pub mod CausesVerdicts
+pub mod Causes
+pub mod Views

@@ -1,5 +1,5 @@
 -- What a line posted to the mailboxes and took from them.
-use Rattle.std.specs.Prelude.{ℕ, suc, ◌==◌, ◌&&◌, ◌||◌, Bool, true, false, not, List, [], ◌∷◌, ◌++◌, map, filter, Option, Some, None, if◌then◌else◌}
+use Rattle.std.specs.Prelude.{ℕ, suc, ◌==◌, ◌&&◌, Bool, true, false, not, List, [], ◌∷◌, ◌++◌, map, filter}
 use Rattle.std.specs.Cmp.Lexicographic.{pointwise}
 use Rattle.std.specs.List.{list_any, list_all, flat_map}
 use Rattle.aft_id.specs.declared.txn_id.TxnId.{TxnId}
@@ -21,7 +21,7 @@ use Rattle.aft_model.specs.Known.{is_listed, in_id_order}
 use Rattle.aft_model.specs.Office.{ManagerRound, ids_of, round_in}
 use Rattle.aft_model.specs.Readings.{same_id}
 use Rattle.aft_model.specs.ScanRun.{same_line}
-use Rattle.aft_model.specs.Turns.{Turn, AtDoor, AtNode, AtOffice, replies_of}
+use Rattle.aft_model.specs.Turns.{Turn, AtNode, AtOffice, replies_of}
 
 -- what was done at the box of a number
 pub record AtBox : Type 0 where

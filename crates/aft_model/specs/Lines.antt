@@ -1,8 +1,7 @@
 -- The lines of a run: those of its script, and with threads those of the background rounds; in which order they run, and what their clients hold.
-use Rattle.std.specs.Prelude.{ℕ, suc, nat_lt, ◌==◌, ◌&&◌, ◌||◌, Bool, true, false, not, List, [], ◌∷◌, ◌++◌, map, filter, Option, Some, None, if◌then◌else◌}
-use Rattle.std.specs.List.{list_any, list_all, flat_map, last_or, range_with_len}
+use Rattle.std.specs.Prelude.{ℕ, suc, nat_lt, ◌==◌, ◌&&◌, Bool, true, false, not, List, [], ◌∷◌, ◌++◌, map, filter, Option, Some, None, if◌then◌else◌}
+use Rattle.std.specs.List.{list_all, flat_map, last_or, range_with_len}
 use Rattle.aft_model.specs.declared.caller.Attempt.{Attempt}
-use Rattle.aft_model.specs.declared.caller.By.{By}
 use Rattle.aft_model.specs.declared.caller.Hold.{Hold}
 use Rattle.aft_model.specs.declared.node.NodeAct.{NodeAct}
 use Rattle.aft_model.specs.declared.node.NodeAct.TheVariants.{Begin}
@@ -20,8 +19,7 @@ use Rattle.aft_model.specs.Attempts.{present_of}
 use Rattle.aft_model.specs.FinishedText.{line_of}
 use Rattle.aft_model.specs.NodeSights.{first_of}
 use Rattle.aft_model.specs.NodeState.{part}
-use Rattle.aft_model.specs.ScanRun.{same_line}
-use Rattle.aft_model.specs.Turns.{Turn, AtDoor, AtNode, AtOffice, turns}
+use Rattle.aft_model.specs.Turns.{Turn, AtNode, turns}
 
 -- the numbers of the nodes
 abbrev pub node_numbers : Settings → List ℕ

@@ -1,27 +1,31 @@
 -- The rules of a node's history, one for each kind of entry, as far as they speak of that history alone: what the entry may say, and what it answers.
-use Rattle.std.specs.Prelude.{ℕ, suc, max, nat_lt, ◌==◌, ◌&&◌, ◌||◌, Bool, true, false, not, List, [], length, map, filter, Option, Some, None, is_some, if◌then◌else◌}
+use Rattle.std.specs.Prelude.{ℕ, suc, max, nat_lt, ◌==◌, ◌&&◌, ◌||◌, Bool, true, false, not, List, length, map, filter, Option, Some, None, is_some, if◌then◌else◌}
 use Rattle.std.specs.Cmp.Lexicographic.{pointwise}
 use Rattle.std.specs.List.{list_any, list_all, fold}
-use Rattle.std.specs.Option.{option_eq}
 use Rattle.std.specs.Str.{bytes_eq}
 use Rattle.aft_id.specs.declared.txn_id.TxnId.{TxnId}
 use Rattle.aft_records.specs.Limits.{is_time}
 use Rattle.aft_records.specs.Superseded.{wrote, is_superseded}
 use Rattle.aft_records.specs.declared.stored.Commit.{Commit}
 use Rattle.aft_model.specs.declared.caller.Attempt.{Attempt}
+use Rattle.aft_model.specs.declared.caller.By.{By}
 use Rattle.aft_model.specs.declared.choice.Choice.{Choice}
 use Rattle.aft_model.specs.declared.choice.Choice.TheVariants as choices
 use Rattle.aft_model.specs.declared.choice.Picked.{Picked}
 use Rattle.aft_model.specs.declared.choice.Picked.TheVariants as picked
+use Rattle.aft_model.specs.declared.node.NodeAct.{NodeAct}
+use Rattle.aft_model.specs.declared.node.NodeAct.TheVariants.{Stored, End}
+use Rattle.aft_model.specs.declared.node.NodeEntry.{NodeEntry}
 use Rattle.aft_model.specs.declared.read_set.ReadPair.{ReadPair}
 use Rattle.aft_model.specs.declared.reply.Reply.{Reply}
 use Rattle.aft_model.specs.declared.reply.Reply.TheVariants as replies
-use Rattle.aft_model.specs.Attempts.{Write, AttemptState, IsCommitting, attempt_state, attempts, present_of, is_of, buffer, buffered, written_keys, reads, open_reads, is_running, is_opening, is_committing, is_in_doubt, is_leaving}
+use Rattle.aft_model.specs.Attempts.{AttemptState, IsCommitting, same_attempt, attempt_state, attempts, present_of, is_of, buffer, buffered, written_keys, reads, open_reads, is_running, is_leaving}
 use Rattle.aft_model.specs.Cache.{Kept, cache, kept_value}
 use Rattle.aft_model.specs.Choice.{choice}
-use Rattle.aft_model.specs.Known.{has_id, is_listed, with_commit, known_in, holds_id, droppable, unannounced, in_id_order}
+use Rattle.aft_model.specs.Known.{has_id, is_listed, with_commit, known_in, unannounced, in_id_order}
 use Rattle.aft_model.specs.NodeState.{NodeState, IsDown, IsBooting, IsServing, Service}
 use Rattle.aft_model.specs.Readings.{same_id, same_commit}
+use Rattle.aft_model.specs.ScanRun.{same_line}
 use Rattle.aft_model.specs.Replies.{same_blockers, is_answer, is_silent}
 
 -- the most keys that an attempt may write
@@ -179,6 +183,16 @@ is_end (IsCommitting c) (Some replies.Aborted) = true
 is_end state (Some replies.Ended) = is_leaving state
 is_end state (Some replies.Aborted) = is_leaving state
 is_end state answer = false
+
+-- whether an act stores a commit of this id for an attempt
+abbrev pub stores : Attempt → TxnId → NodeAct → Bool
+stores a id (Stored b c) = same_attempt a b && same_id id c.id
+stores a id act = false
+
+-- whether an end that answers an id as committed comes after the storing of that commit by the same line; any other act may come
+abbrev pub is_own_end : List NodeEntry → By → NodeAct → Option Reply → Bool
+is_own_end part by (End a) (Some (replies.Committed id)) = list_any (λ entry. same_line by entry.by && stores a id entry.act) part
+is_own_end part by act answer = true
 
 -- ---- mail and collection
 

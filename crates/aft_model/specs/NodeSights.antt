@@ -1,5 +1,5 @@
 -- What the entries of a node's history ask of the door's history, and of what their line was shown there. Each looks at the part that its front has seen.
-use Rattle.std.specs.Prelude.{ℕ, nat_le, ◌==◌, ◌&&◌, Bool, true, false, List, [], ◌∷◌, length, take, drop, filter, Option, Some, None, IsTrue, if◌then◌else◌}
+use Rattle.std.specs.Prelude.{ℕ, nat_le, ◌&&◌, Bool, true, false, List, [], ◌∷◌, length, take, drop, filter, Option, Some, None, IsTrue, if◌then◌else◌}
 use Rattle.std.specs.Cmp.Lexicographic.{pointwise}
 use Rattle.std.specs.List.{list_any, list_all, flat_map}
 use Rattle.std.specs.Str.{bytes_eq}
@@ -26,7 +26,7 @@ use Rattle.aft_model.specs.History.{each_after, followed}
 use Rattle.aft_model.specs.Known.{known}
 use Rattle.aft_model.specs.Membership.{Incarnation, incarnation, same_incarnation}
 use Rattle.aft_model.specs.NodeState.{part}
-use Rattle.aft_model.specs.Readings.{same_id, same_commit, record_name, marker_name, version_name, versions_in}
+use Rattle.aft_model.specs.Readings.{same_id, same_commit, record_name, marker_name, versions_in}
 use Rattle.aft_model.specs.ScanRun.{ScanPage, same_line, scan_pages, is_scan_run}
 use Rattle.aft_model.specs.Sound.{records_prefix, recorded}
 

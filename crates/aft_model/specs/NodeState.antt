@@ -1,5 +1,5 @@
 -- What a node is doing: it is down, it boots, or it serves as one incarnation, with what it has done in that service.
-use Rattle.std.specs.Prelude.{ℕ, max, ◌==◌, ◌&&◌, Bool, true, false, List, [], ◌∷◌, ◌++◌, Option, Some, None}
+use Rattle.std.specs.Prelude.{ℕ, max, ◌==◌, Bool, true, false, List, [], ◌∷◌, ◌++◌, Option, Some, None}
 use Rattle.std.specs.List.{fold}
 use Rattle.aft_records.specs.declared.stored.Commit.{Commit}
 use Rattle.aft_model.specs.declared.node.NodeAct.{NodeAct}

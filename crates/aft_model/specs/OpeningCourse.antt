@@ -1,6 +1,5 @@
 -- The course of the opening: what the office reads until the door is open, and then one boot of each node, in order.
-use Rattle.std.specs.Prelude.{ℕ, ◌==◌, ◌&&◌, Bool, true, false, List, [], ◌∷◌, if◌then◌else◌}
-use Rattle.aft_model.specs.declared.door.DoorAct.{DoorAct}
+use Rattle.std.specs.Prelude.{ℕ, ◌==◌, ◌&&◌, Bool, false, List, [], ◌∷◌, if◌then◌else◌}
 use Rattle.aft_model.specs.declared.door.DoorAct.TheVariants as door_acts
 use Rattle.aft_model.specs.declared.node.NodeAct.{NodeAct}
 use Rattle.aft_model.specs.declared.node.NodeAct.TheVariants.{Booting, Boot}
@@ -9,7 +8,7 @@ use Rattle.aft_model.specs.CourseWords.{is_over}
 use Rattle.aft_model.specs.Membership.{Incarnation, incarnation, same_incarnation}
 use Rattle.aft_model.specs.ScanCourse.{Scanned, scanned}
 use Rattle.aft_model.specs.Sound.{records_prefix}
-use Rattle.aft_model.specs.Turns.{Turn, AtDoor, AtNode, AtOffice}
+use Rattle.aft_model.specs.Turns.{Turn, AtDoor, AtNode}
 
 -- whether an act is the boot of this incarnation
 abbrev pub is_boot : ℕ → NodeAct → Bool

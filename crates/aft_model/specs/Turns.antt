@@ -1,5 +1,5 @@
 -- The turns of a line, in order: its entries in the histories of the door, of the nodes and of the office, put together by their fronts and places.
-use Rattle.std.specs.Prelude.{ℕ, suc, nat_lt, ◌+◌, Bool, List, [], ◌∷◌, ◌++◌, Option, None, option_to_list, if◌then◌else◌}
+use Rattle.std.specs.Prelude.{ℕ, suc, nat_lt, ◌+◌, List, [], ◌∷◌, ◌++◌, Option, None, option_to_list, if◌then◌else◌}
 use Rattle.std.specs.List.{fold, flat_map}
 use Rattle.aft_model.specs.declared.caller.By.{By}
 use Rattle.aft_model.specs.declared.door.DoorAct.{DoorAct}

@@ -6,6 +6,7 @@ ghost use Rattle.aft_keeper.specs.Cause.{HasCause};
 use aft_id::TxnId;
 use aft_keeper::{Sink, SinkFault};
 use aft_model::{Blocked, Judged, NodeEntry, Reply, Verdict};
+use aft_records::Key;
 use std::alloc::Global;
 use std::fmt;
 use std::fmt::{Formatter, Write};
@@ -139,6 +140,19 @@ fn is_printable(bytes: &[u8]) -> bool {
     !bytes.is_empty() && bytes.iter().all(|b| (33..=126).contains(b))
 }
 
+/// A key as a word: its bytes as they are.
+#[derive(Clone, Copy)]
+struct KeyWord<'a>(&'a Key);
+
+impl fmt::Display for KeyWord<'_> {
+    fn fmt<W: Write>(&self, f: &mut Formatter<W>) -> fmt::Result {
+        for byte in self.0.bytes() {
+            f.write_char(char::from(*byte))?;
+        }
+        Ok(())
+    }
+}
+
 /// Three words for each version that doesn't fit.
 #[derive(Clone, Copy)]
 struct BlockedWords<'a>(&'a [Blocked]);
@@ -147,7 +161,7 @@ impl fmt::Display for BlockedWords<'_> {
     fn fmt<W: Write>(&self, f: &mut Formatter<W>) -> fmt::Result {
         for blocked in self.0 {
             let (id, read) = (Id(blocked.id), Id(blocked.read));
-            let key = Value(blocked.key.bytes());
+            let key = KeyWord(&blocked.key);
             write!(f, " {id} {key} {read}")?;
         }
         Ok(())
