@@ -11,7 +11,8 @@ use Rattle.aft_model.specs.declared.script.Line.{Line}
 use Rattle.aft_model.specs.declared.script.Step.{Step}
 use Rattle.aft_histories.specs.Entries.{u, x, record_of}
 use Rattle.aft_runs.specs.Entries.{misses, turn, answering}
-use Rattle.aft_runs.specs.Lines.{opening, opens, boots, attempt, begins, puts}
+use Rattle.aft_runs.specs.Lines.{opening, opens, boots, attempt, begins, puts, gets_absent}
+use Rattle.aft_runs.specs.Rounds.{drops}
 use Rattle.aft_runs.specs.Words.{write, hi}
 use Rattle.aft_runs.specs.Works.{Work, Run, run, asked, ran, by, at, nodes, nothing, asks}
 
@@ -46,17 +47,21 @@ asks_store = misses (by 1 2) (incarnation 1 1) (record_of 2)
 
 -- ---- the script
 
--- an entry of the line 9 of client 3, in a run turn by turn whose script has these lines besides
+-- an entry of the line 9 of client 3, where lines run turn by turn, and the script has these lines besides
 abbrev pub answers_for : List Line → Run
 answers_for lines = in_turns (begins_then (record nothing { lines = lines; nodes = at 1 (answering 8 (by 3 9) turns.Nothing replies.NoMemory ∷ []) } ∷ []))
 
 -- that line
-abbrev pub line_nine : Line
-line_nine = record { number = 9; client = 3; order = commands.Local 1 }
+abbrev pub line_nine : List Line
+line_nine = (asks (by 3 9) (commands.Local 1)).lines
 
 -- a line puts the value hi, and this value is put
 abbrev pub puts_value : List ℕ → Run
 puts_value value = puts_by (answering 8 (by 1 2) (turns.Put (attempt 1 1 1) x value) replies.Stored ∷ []) []
+
+-- a line gets x, and this key is got
+abbrev pub gets_key : List ℕ → Run
+gets_key key = begins_then (record (gets_absent 8 (by 1 2) (attempt 1 1 1) key) { lines = (asks (by 1 2) (commands.Get x)).lines } ∷ [])
 
 -- of two nodes the second begins a transaction, for a line that names this one
 abbrev pub begins_for : ℕ → Run
@@ -64,11 +69,22 @@ begins_for node = run (nodes 2) (
     opens
     ∷ boots 3 opening 1 1 []
     ∷ boots 5 opening 2 1 []
-    ∷ record (begins 7 (by 1 1) (attempt 2 1 1) 1) { lines = record { number = 1; client = 1; order = commands.Begin (u 1) node } ∷ [] } ∷ [])
+    ∷ record (begins 7 (by 1 1) (attempt 2 1 1) 1) { lines = (asks (by 1 1) (commands.Begin (u 1) node)).lines } ∷ [])
 
--- two clients begin, and the first puts a value for this attempt
+-- the second has a local round, for a line that names this one
+abbrev pub rounds_for : ℕ → Run
+rounds_for node = run (nodes 2) (
+    opens
+    ∷ boots 3 opening 1 1 []
+    ∷ boots 5 opening 2 1 []
+    ∷ record (drops 7 (by 1 1) 2 []) { lines = (asks (by 1 1) (commands.Local node)).lines } ∷ [])
+
+-- two clients begin, and the first puts a value for this attempt, or gets a key for it
 abbrev pub puts_for : Attempt → Run
 puts_for own = begins_then (begins 8 (by 2 2) (attempt 1 1 2) 2 ∷ puts 11 (by 1 3) own (write x hi) ∷ [])
+
+abbrev pub gets_for : Attempt → Run
+gets_for own = begins_then (begins 8 (by 2 2) (attempt 1 1 2) 2 ∷ gets_absent 11 (by 1 3) own x ∷ [])
 
 -- ---- order
 

@@ -1,8 +1,9 @@
 -- Runs in which what is dropped or given up is left open: as the rules say they are legal, and otherwise they are refused.
-use Rattle.std.specs.Prelude.{◌+◌, List, [], ◌∷◌, ◌++◌, length}
+use Rattle.std.specs.Prelude.{ℕ, ◌+◌, List, [], ◌∷◌, ◌++◌, length}
 use Rattle.aft_records.specs.declared.stored.Commit.{Commit}
 use Rattle.aft_model.specs.declared.node.NodeAct.TheVariants as turns
 use Rattle.aft_model.specs.declared.node.NodeEntry.{NodeEntry}
+use Rattle.aft_model.specs.declared.reply.Judged.{Judged}
 use Rattle.aft_histories.specs.Entries.{x}
 use Rattle.aft_runs.specs.Entries.{turn}
 use Rattle.aft_runs.specs.Lines.{opening, opens, boots, attempt, begins, puts, fetches, commits, doubts, leaves}
@@ -32,9 +33,12 @@ drops_behind earlier dropped = run (nodes 1) (
 abbrev pub reader_leaves : List Work
 reader_leaves = leaves 21 (by 2 9) (attempt 1 1 2) 2 ∷ []
 
--- the superseded commit
+-- the superseded commit, and the one that supersedes it
 abbrev pub the_older : List Commit
 the_older = commit_of older ∷ []
+
+abbrev pub the_newer : List Commit
+the_newer = commit_of newer ∷ []
 
 -- ---- give-ups
 
@@ -56,17 +60,24 @@ collects_in_doubt work = run (nodes 1) (
     ∷ collects 17 (by 2 7) (commit_of older ∷ commit_of beside ∷ [])
     ∷ work)
 
--- it finds that the node holds the older one
-abbrev pub finds_held : List Work
-finds_held = collected 19 (by 2 7) (held older.id 1 1 ∷ []) ∷ []
+-- it does nothing, and says this of the older one
+abbrev pub finds : List Judged → List Work
+finds judged = collected 19 (by 2 7) judged ∷ []
+
+-- that an incarnation of a node holds it, and that it is retired
+abbrev pub held_by : ℕ → ℕ → List Judged
+held_by node inc = held older.id node inc ∷ []
+
+abbrev pub is_retired : List Judged
+is_retired = retired older.id ∷ []
 
 -- the node gives it up, and it is retired
 abbrev pub gives_up_doubt : List Work
-gives_up_doubt = gives_up 19 (by 2 7) 1 1 older.id ∷ retires (by 2 7) (commit_of older) ∷ collected 24 (by 2 7) (retired older.id ∷ []) ∷ []
+gives_up_doubt = gives_up 19 (by 2 7) 1 1 older.id ∷ retires (by 2 7) (commit_of older) ∷ collected 24 (by 2 7) is_retired ∷ []
 
--- a node has dropped a superseded commit; a collection has its give-up at the door, with this at the node, and retires it
-abbrev pub collects_with : List NodeEntry → Run
-collects_with given = run (nodes 1) (
+-- a node has dropped a superseded commit; then a collection comes to it, and does this
+abbrev pub collects_dropped : List Work → Run
+collects_dropped work = run (nodes 1) (
     opens
     ∷ boots 3 opening 1 1 []
     ∷ begins 5 (by 1 1) (attempt 1 1 1) 1
@@ -76,11 +87,20 @@ collects_with given = run (nodes 1) (
     ∷ puts 14 (by 1 5) (attempt 1 1 2) (write x b)
     ∷ commits 14 (by 1 6) (attempt 1 1 2) newer
     ∷ drops 17 (by 1 7) 1 the_older
-    ∷ collects 17 (by 1 8) (commit_of older ∷ commit_of newer ∷ [])
-    ∷ record (gives_up 19 (by 1 8) 1 1 older.id) { nodes = at 1 given }
-    ∷ retires (by 1 8) (commit_of older)
-    ∷ collected 24 (by 1 8) (retired older.id ∷ []) ∷ [])
+    ∷ collects 17 (by 2 8) (commit_of older ∷ commit_of newer ∷ [])
+    ∷ work)
+
+-- its give-up stands at the door, with these entries at the node, and it is retired
+abbrev pub gives_up_with : List NodeEntry → List Work
+gives_up_with given =
+    record (gives_up 19 (by 2 8) 1 1 older.id) { nodes = at 1 given }
+    ∷ retires (by 2 8) (commit_of older)
+    ∷ collected 24 (by 2 8) is_retired ∷ []
 
 -- the node's give-up
 abbrev pub node_gives_up : NodeEntry
-node_gives_up = turn 19 (by 1 8) (turns.GiveUp older.id)
+node_gives_up = turn 19 (by 2 8) (turns.GiveUp older.id)
+
+-- the node isn't asked, and it is said to hold it
+abbrev pub says_held : List Work
+says_held = collected 19 (by 2 8) (held_by 1 1) ∷ []

@@ -15,5 +15,6 @@ pub mod Boots
 pub mod Collections
 pub mod Deliveries
 pub mod Asks
+pub mod Replies
 pub mod Promises
 pub mod Unkept

@@ -7,6 +7,7 @@ use Rattle.aft_model.specs.LegalDoor.{is_legal}
 use Rattle.aft_model.specs.LegalTrace.{fits_settings, are_legal_nodes, opens_as_asked, keep_courses, keep_mail, answered_once, carry_words, stand_at_nodes, speak_of_held, read_clock, clients_in_order, ran_as_ordered, give_ups_backed}
 use Rattle.aft_model.specs.Lines.{lines, whole_order}
 use Rattle.aft_model.specs.Office.{is_legal_office}
+use Rattle.aft_model.specs.Views.{have_causes}
 use Rattle.aft_runs.specs.Works.{Run}
 
 -- the parts, named as a legal trace names them
@@ -27,6 +28,7 @@ pub data Part : Type 0 where
   Clients : Part
   WholeLines : Part
   GiveUps : Part
+  Causes : Part
 
 -- whether a part holds of what a run was asked, and of what came of it
 abbrev pub holds : Part → Asked → Ran → Bool
@@ -46,12 +48,13 @@ holds Clock asked ran = read_clock asked ran
 holds Clients asked ran = clients_in_order ran
 holds WholeLines asked ran = ran_as_ordered ran (whole_order asked.order (lines asked))
 holds GiveUps asked ran = give_ups_backed ran.trace
+holds Causes asked ran = have_causes asked ran
 
 -- all of them
 abbrev pub parts : List Part
 parts =
     Settings ∷ Door ∷ Nodes ∷ Office ∷ Boxes ∷ Opening ∷ Courses ∷ Posts ∷ Answers ∷ Words ∷ Places ∷ Attempts ∷ Clock ∷ Clients ∷ WholeLines
-    ∷ GiveUps ∷ []
+    ∷ GiveUps ∷ Causes ∷ []
 
 -- those that a run breaks, in this order
 abbrev pub broken : Run → List Part

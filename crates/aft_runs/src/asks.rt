@@ -1,9 +1,10 @@
 //! Runs that fit what they were asked, and others, which are refused.
 
 ghost use Rattle.std.specs.Prelude.{[], ◌∷◌};
-ghost use Rattle.aft_runs.specs.Asks.{puts_by, puts_it, answers_again, asks_store, answers_for, line_nine, puts_value, begins_for, puts_for, puts_at, runs_within, begins_by, whole, histories_of};
+ghost use Rattle.aft_histories.specs.Entries.{x, y};
+ghost use Rattle.aft_runs.specs.Asks.{puts_by, puts_it, answers_again, asks_store, answers_for, line_nine, puts_value, gets_key, begins_for, rounds_for, puts_for, gets_for, puts_at, runs_within, begins_by, whole, histories_of};
 ghost use Rattle.aft_runs.specs.Lines.{attempt};
-ghost use Rattle.aft_runs.specs.Parts.{RefusedBy, Settings, Nodes, Opening, Courses, Answers, Words, Places, Attempts, Clients, WholeLines};
+ghost use Rattle.aft_runs.specs.Parts.{RefusedBy, Settings, Nodes, Opening, Courses, Answers, Words, Places, Attempts, Clients, WholeLines, Causes};
 ghost use Rattle.aft_runs.specs.Words.{hi, a};
 
 /// A line answers once, and is over then.
@@ -15,17 +16,28 @@ pub fn endings_refused()
     ensures goes_on { RefusedBy (Courses ∷ []) (puts_by (puts_it ∷ []) (asks_store ∷ [])) }
 {}
 
-/// A line does what its words say, at its node, for what its client holds; and nothing is done for no line.
+/// A line does what its words say, and nothing is done for no line.
 #[tactic(auto, unfolding(aft_histories::proofs::Stored::stored_forms))]
 pub fn lines_refused()
-    ensures line_asked { RefusedBy [] (answers_for (line_nine ∷ [])) }
+    ensures line_asked { RefusedBy [] (answers_for line_nine) }
     ensures line_not_asked { RefusedBy (Opening ∷ []) (answers_for []) }
     ensures value { RefusedBy [] (puts_value hi) }
-    ensures other_value { RefusedBy (Words ∷ []) (puts_value a) }
-    ensures node { RefusedBy [] (begins_for 2) }
-    ensures other_node { RefusedBy (Places ∷ []) (begins_for 1) }
-    ensures own_attempt { RefusedBy [] (puts_for (attempt 1 1 1)) }
-    ensures other_attempt { RefusedBy (Attempts ∷ []) (puts_for (attempt 1 1 2)) }
+    ensures other_value { RefusedBy (Words ∷ Causes ∷ []) (puts_value a) }
+    ensures key { RefusedBy [] (gets_key x) }
+    ensures other_key { RefusedBy (Words ∷ []) (gets_key y) }
+{}
+
+/// A line stands at its node, and speaks of what its client holds.
+#[tactic(auto, unfolding(aft_histories::proofs::Stored::stored_forms))]
+pub fn places_refused()
+    ensures begin { RefusedBy [] (begins_for 2) }
+    ensures begin_elsewhere { RefusedBy (Places ∷ Causes ∷ []) (begins_for 1) }
+    ensures round { RefusedBy [] (rounds_for 2) }
+    ensures round_elsewhere { RefusedBy (Places ∷ []) (rounds_for 1) }
+    ensures own_put { RefusedBy [] (puts_for (attempt 1 1 1)) }
+    ensures put_of_another { RefusedBy (Attempts ∷ Causes ∷ []) (puts_for (attempt 1 1 2)) }
+    ensures own_get { RefusedBy [] (gets_for (attempt 1 1 1)) }
+    ensures get_of_another { RefusedBy (Attempts ∷ []) (gets_for (attempt 1 1 2)) }
 {}
 
 /// Fronts never fall, a client's lines come one after the other, and lines that run whole do so in their order.

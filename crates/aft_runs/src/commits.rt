@@ -2,13 +2,13 @@
 
 ghost use Rattle.std.specs.Prelude.{[], ◌∷◌};
 ghost use Rattle.aft_runs.specs.Commits.{finishes, lets_go, answers_behind, finds_it, finds_nothing, answers_after, reads_clock, commits_at};
-ghost use Rattle.aft_runs.specs.Parts.{RefusedBy, Nodes, Courses, Clock};
+ghost use Rattle.aft_runs.specs.Parts.{RefusedBy, Nodes, Courses, Clock, Causes};
 
 /// What is answered as committed was recorded, and its claim is let go.
 #[tactic(auto, unfolding(aft_histories::proofs::Stored::stored_forms))]
 pub fn answers_refused()
     ensures record_found { RefusedBy [] (finishes (answers_behind finds_it)) }
-    ensures no_record_found { RefusedBy (Nodes ∷ Courses ∷ []) (finishes (answers_behind finds_nothing)) }
+    ensures no_record_found { RefusedBy (Nodes ∷ Courses ∷ Causes ∷ []) (finishes (answers_behind finds_nothing)) }
     ensures let_go { RefusedBy [] (finishes (answers_after lets_go)) }
     ensures not_let_go { RefusedBy (Courses ∷ []) (finishes (answers_after [])) }
 {}

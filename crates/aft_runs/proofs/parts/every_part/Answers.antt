@@ -22,9 +22,10 @@ returns-clause-legal c told none =
       clients = all.1.1.1.1.1.1.1.1.1.1.1.1.1.0;
       whole_lines = all.1.1.1.1.1.1.1.1.1.1.1.1.1.1.0;
       give_ups = all.1.1.1.1.1.1.1.1.1.1.1.1.1.1.1.0;
+      causes = all.1.1.1.1.1.1.1.1.1.1.1.1.1.1.1.1.0;
     }
 
 pub returns-clause-refused_by_none : goal.returns-clause-refused_by_none
 returns-clause-refused_by_none c told legal =
     none_fails (λ part. holds part told.asked told.ran) parts
-    (legal.settings, (legal.door, (legal.nodes, (legal.office, (legal.boxes, (legal.opening, (legal.courses, (legal.posts, (legal.answers, (legal.words, (legal.places, (legal.attempts, (legal.clock, (legal.clients, (legal.whole_lines, (legal.give_ups, tt))))))))))))))))
+    (legal.settings, (legal.door, (legal.nodes, (legal.office, (legal.boxes, (legal.opening, (legal.courses, (legal.posts, (legal.answers, (legal.words, (legal.places, (legal.attempts, (legal.clock, (legal.clients, (legal.whole_lines, (legal.give_ups, (legal.causes, tt)))))))))))))))))
