@@ -34,12 +34,12 @@ begins_then later = run (nodes 1) (opens ∷ boots 3 opening 1 1 [] ∷ begins 5
 abbrev pub puts_by : List NodeEntry → List DoorEntry → Run
 puts_by at_node at_door = begins_then (record (asks (by 1 2) (commands.Put x hi)) { door = at_door; nodes = at 1 at_node } ∷ [])
 
--- the value is buffered, and this is answered; and then it is answered again
+-- the value is buffered, and this is answered; and then something else is answered
 abbrev pub puts_it : NodeEntry
 puts_it = answering 8 (by 1 2) (turns.Put (attempt 1 1 1) x hi) replies.Stored
 
 abbrev pub answers_again : NodeEntry
-answers_again = answering 8 (by 1 2) turns.Nothing replies.Stored
+answers_again = answering 8 (by 1 2) turns.Nothing replies.NoMemory
 
 -- the store is asked for something
 abbrev pub asks_store : DoorEntry

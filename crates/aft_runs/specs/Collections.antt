@@ -4,8 +4,9 @@ use Rattle.aft_records.specs.declared.stored.Commit.{Commit}
 use Rattle.aft_model.specs.declared.node.NodeAct.TheVariants as turns
 use Rattle.aft_model.specs.declared.node.NodeEntry.{NodeEntry}
 use Rattle.aft_model.specs.declared.reply.Judged.{Judged}
+use Rattle.aft_model.specs.declared.reply.Reply.TheVariants as replies
 use Rattle.aft_histories.specs.Entries.{x}
-use Rattle.aft_runs.specs.Entries.{turn}
+use Rattle.aft_runs.specs.Entries.{turn, answering}
 use Rattle.aft_runs.specs.Lines.{opening, opens, boots, attempt, begins, puts, fetches, commits, doubts, leaves}
 use Rattle.aft_runs.specs.Pinned.{older, newer}
 use Rattle.aft_runs.specs.Rounds.{drops, collects, gives_up, retires, collected, held, retired}
@@ -14,9 +15,9 @@ use Rattle.aft_runs.specs.Works.{Work, Run, run, by, at, nodes}
 
 -- ---- local rounds
 
--- a transaction has read a commit, and another has superseded it; then this is done, and the node drops these commits
-abbrev pub drops_behind : List Work → List Commit → Run
-drops_behind earlier dropped = run (nodes 1) (
+-- a transaction has read a commit, and another has superseded it; then this is done, and the node has this local round
+abbrev pub round_behind : List Work → Work → Run
+round_behind earlier round = run (nodes 1) (
     opens
     ∷ boots 3 opening 1 1 []
     ∷ begins 5 (by 1 1) (attempt 1 1 1) 1
@@ -27,11 +28,19 @@ drops_behind earlier dropped = run (nodes 1) (
     ∷ begins 15 (by 1 6) (attempt 1 1 3) 3
     ∷ puts 18 (by 1 7) (attempt 1 1 3) (write x b)
     ∷ commits 18 (by 1 8) (attempt 1 1 3) newer
-    ∷ earlier ++ drops (21 + length earlier) (by 1 10) 1 dropped ∷ [])
+    ∷ earlier ++ round ∷ [])
+
+-- the same where the round drops these commits
+abbrev pub drops_behind : List Work → List Commit → Run
+drops_behind earlier dropped = round_behind earlier (drops (21 + length earlier) (by 1 10) 1 dropped)
 
 -- the reader leaves
 abbrev pub reader_leaves : List Work
 reader_leaves = leaves 21 (by 2 9) (attempt 1 1 2) 2 ∷ []
+
+-- a round says that it dropped so many, and does nothing
+abbrev pub says_dropped : ℕ → Work
+says_dropped count = record (drops 22 (by 1 10) 1 []) { nodes = at 1 (answering 22 (by 1 10) turns.Nothing (replies.Dropped count) ∷ []) }
 
 -- the superseded commit, and the one that supersedes it
 abbrev pub the_older : List Commit

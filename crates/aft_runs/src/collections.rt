@@ -1,7 +1,7 @@
 //! What nodes drop and give up by the rules, and otherwise, which is refused.
 
 ghost use Rattle.std.specs.Prelude.{[], ◌∷◌};
-ghost use Rattle.aft_runs.specs.Collections.{drops_behind, reader_leaves, the_older, the_newer, collects_in_doubt, finds, held_by, is_retired, gives_up_doubt, collects_dropped, gives_up_with, node_gives_up, says_held};
+ghost use Rattle.aft_runs.specs.Collections.{round_behind, drops_behind, reader_leaves, says_dropped, the_older, the_newer, collects_in_doubt, finds, held_by, is_retired, gives_up_doubt, collects_dropped, gives_up_with, node_gives_up, says_held};
 ghost use Rattle.aft_runs.specs.Parts.{RefusedBy, Nodes, Courses, GiveUps, Causes};
 
 /// A local round drops a superseded commit once nobody reads it, and not before.
@@ -11,6 +11,7 @@ pub fn drops_refused()
     ensures dropped_while_read { RefusedBy (Nodes ∷ Causes ∷ []) (drops_behind [] the_older) }
     ensures dropped { RefusedBy [] (drops_behind reader_leaves the_older) }
     ensures kept_for_nobody { RefusedBy (Nodes ∷ Causes ∷ []) (drops_behind reader_leaves []) }
+    ensures said_dropped { RefusedBy (Nodes ∷ []) (round_behind reader_leaves (says_dropped 1)) }
     ensures other_dropped { RefusedBy (Nodes ∷ []) (drops_behind reader_leaves the_newer) }
 {}
 

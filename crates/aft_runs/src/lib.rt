@@ -28,4 +28,4 @@ pub use gets::{sights_refused, versions_refused};
 pub use parts::{every_part, every_promise};
 pub use promises::{commits_unkept, reads_unkept};
 pub use reading::{reads, reads_beside};
-pub use replies::{node_replies_refused, transaction_replies_refused};
+pub use replies::{refusals_refused, states_refused, words_alone_refused};
