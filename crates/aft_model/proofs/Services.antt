@@ -1,6 +1,6 @@
 -- How a node's state goes on from entry to entry: an incarnation whose service has ended never serves again.
 use Rattle.std.proofs.Common.{◌≡◌, ℕ, ◌<◌, ◌≤◌, Bool, true, false, ◌&&◌, not, List, [], ◌∷◌, ◌++◌, refl, sym, ap, subst, ◌∙◌, ◌⊎◌, inl, inr, eqb, arith}
-use Rattle.std.specs.Prelude.{IsTrue, Option, is_some, nat_le, suc}
+use Rattle.std.specs.Prelude.{IsTrue, Option, nat_le, suc}
 use Rattle.std.proofs.lemmas.Bool.{and_parts, eqb-true, false≢true}
 use Rattle.std.proofs.lemmas.List.Sums.{fold-append}
 use Rattle.aft_records.specs.declared.stored.Commit.{Commit}
@@ -10,7 +10,7 @@ use Rattle.aft_model.specs.declared.node.NodeEntry.{NodeEntry}
 use Rattle.aft_model.specs.declared.reply.Reply.{Reply}
 use Rattle.aft_model.specs.Known.{has_each_id_once}
 use Rattle.aft_model.specs.LegalNode.{may_serve, may_be_done, may_follow_at, front, LegalNode}
-use Rattle.aft_model.specs.NodeRules.{may_begin_boot}
+use Rattle.aft_model.specs.NodeRules.{may_answer_alone, may_begin_boot}
 use Rattle.aft_model.specs.NodeState.{Service, NodeState, IsDown, IsBooting, IsServing, extended, goes_on, stopped, state_after, node_state, newest_after, newest, service_in, in_service, boots, serves}
 use Rattle.aft_model.proofs.Histories.{each_after_split, each_after_kept}
 
@@ -40,7 +40,7 @@ serves_on node capacity newest IsDown entry act answer rule = absurd (false≢tr
 serves_on node capacity newest (IsBooting inc running) entry act answer rule = absurd (false≢true rule)
 serves_on node capacity newest (IsServing s) entry act answer rule = Serves s refl rule refl
 
-rests : (node capacity newest : ℕ) (before : NodeState) (entry : NodeEntry) (answer : Option Reply) → IsTrue (is_some answer) → Moved node capacity newest before entry Nothing answer (goes_on before entry)
+rests : (node capacity newest : ℕ) (before : NodeState) (entry : NodeEntry) (answer : Option Reply) → IsTrue (may_answer_alone answer) → Moved node capacity newest before entry Nothing answer (goes_on before entry)
 rests node capacity newest IsDown entry answer rule = GoesDown refl
 rests node capacity newest (IsBooting inc running) entry answer rule = Waits inc running running refl refl
 rests node capacity newest (IsServing s) entry answer rule = Serves s refl rule refl

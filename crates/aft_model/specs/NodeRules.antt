@@ -32,6 +32,26 @@ use Rattle.aft_model.specs.Replies.{same_blockers, is_answer, is_silent}
 abbrev pub most_keys : ℕ
 most_keys = 32
 
+-- ---- answers alone
+
+-- what an entry that does nothing may answer: why nothing is done, or at the end of a line what came of what it did elsewhere. All other replies come with the act that they tell of
+abbrev pub may_answer_alone : Option Reply → Bool
+may_answer_alone (Some (replies.Joined uuid)) = true
+may_answer_alone (Some (replies.Busy node inc)) = true
+may_answer_alone (Some (replies.NodeDown node inc)) = true
+may_answer_alone (Some replies.NoTransaction) = true
+may_answer_alone (Some replies.Committing) = true
+may_answer_alone (Some replies.TooManyKeys) = true
+may_answer_alone (Some (replies.OpenReads count)) = true
+may_answer_alone (Some replies.ClockEnd) = true
+may_answer_alone (Some (replies.Crashed node inc)) = true
+may_answer_alone (Some (replies.NotUp node)) = true
+may_answer_alone (Some (replies.IsUp node inc)) = true
+may_answer_alone (Some (replies.IsBooting node inc)) = true
+may_answer_alone (Some (replies.Announced kept pruned dropped)) = true
+may_answer_alone (Some replies.NoMemory) = true
+may_answer_alone answer = false
+
 -- ---- boots
 
 -- a boot begins: of the incarnation after the newest where the node is down, or of the one that it boots where no boot runs

@@ -7,3 +7,14 @@ pub mod Reads
 pub mod Faults
 pub mod Told
 pub mod Pinned
+pub mod Parts
+pub mod Gets
+pub mod Begins
+pub mod Commits
+pub mod Boots
+pub mod Collections
+pub mod Deliveries
+pub mod Asks
+pub mod Replies
+pub mod Promises
+pub mod Unkept

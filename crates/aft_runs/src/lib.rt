@@ -2,10 +2,30 @@
 //! call that does nothing and promises what the definitions say of some of them.
 #![tactic(auto)]
 
+mod asks;
 mod background;
+mod begins;
+mod boots;
+mod collections;
+mod commits;
+mod deliveries;
 mod failing;
+mod gets;
+mod parts;
+mod promises;
 mod reading;
+mod replies;
 
+pub use asks::{endings_refused, lines_refused, orders_refused, places_refused, settings_refused};
 pub use background::{pinned, told};
+pub use begins::begins_refused;
+pub use boots::boots_refused;
+pub use collections::{drops_refused, give_ups_refused, verdicts_refused};
+pub use commits::{answers_refused, times_refused};
+pub use deliveries::{boxes_refused, rounds_refused};
 pub use failing::faults;
-pub use reading::reads;
+pub use gets::{sights_refused, versions_refused};
+pub use parts::{every_part, every_promise};
+pub use promises::{commits_unkept, reads_unkept};
+pub use reading::{reads, reads_beside};
+pub use replies::{refusals_refused, states_refused, words_alone_refused};

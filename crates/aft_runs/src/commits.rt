@@ -1,0 +1,23 @@
+//! Commits by the rules, and others, which are refused.
+
+ghost use Rattle.std.specs.Prelude.{[], ◌∷◌};
+ghost use Rattle.aft_runs.specs.Commits.{finishes, lets_go, answers_behind, finds_it, finds_nothing, answers_after, reads_clock, commits_at};
+ghost use Rattle.aft_runs.specs.Parts.{RefusedBy, Nodes, Courses, Clock, Causes};
+
+/// What is answered as committed was recorded, and its claim is let go.
+#[tactic(auto, unfolding(aft_histories::proofs::Stored::stored_forms))]
+pub fn answers_refused()
+    ensures record_found { RefusedBy [] (finishes (answers_behind finds_it)) }
+    ensures no_record_found { RefusedBy (Nodes ∷ Courses ∷ Causes ∷ []) (finishes (answers_behind finds_nothing)) }
+    ensures let_go { RefusedBy [] (finishes (answers_after lets_go)) }
+    ensures not_let_go { RefusedBy (Courses ∷ []) (finishes (answers_after [])) }
+{}
+
+/// A commit has the time of the clock, and one above each that it read.
+#[tactic(auto, unfolding(aft_histories::proofs::Stored::stored_forms))]
+pub fn times_refused()
+    ensures clock { RefusedBy [] (finishes (reads_clock 1000)) }
+    ensures other_clock { RefusedBy (Clock ∷ []) (finishes (reads_clock 1001)) }
+    ensures above_what_was_read { RefusedBy [] (commits_at 1001) }
+    ensures not_above_what_was_read { RefusedBy (Nodes ∷ []) (commits_at 1000) }
+{}
