@@ -15,7 +15,6 @@ use Rattle.aft_model.specs.declared.door.DoorAct.TheVariants as door_acts
 use Rattle.aft_model.specs.declared.door.DoorEntry.{DoorEntry}
 use Rattle.aft_model.specs.declared.node.NodeAct.{NodeAct}
 use Rattle.aft_model.specs.declared.node.NodeAct.TheVariants as node_acts
-use Rattle.aft_model.specs.declared.node.NodeEntry.{NodeEntry}
 use Rattle.aft_model.specs.declared.office.OfficeAct.{OfficeAct}
 use Rattle.aft_model.specs.declared.office.OfficeAct.TheVariants as office_acts
 use Rattle.aft_model.specs.declared.reply.Reply.{Reply}

@@ -1,5 +1,5 @@
 -- Which histories the office may have: the rounds of the fault manager, and the collections.
-use Rattle.std.specs.Prelude.{Bool, true, false, not, nat_le, ◌&&◌, List, [], ◌∷◌, ◌++◌, length, take, map, filter, Option, Some, None, is_some, is_none, IsTrue, if◌then◌else◌}
+use Rattle.std.specs.Prelude.{Bool, true, false, not, nat_le, ◌&&◌, List, [], ◌∷◌, ◌++◌, length, take, map, filter, Option, Some, None, is_none, IsTrue, if◌then◌else◌}
 use Rattle.std.specs.List.{list_any, list_all, flat_map, fold, last_or, before_first}
 use Rattle.std.specs.Cmp.Lexicographic.{pointwise}
 use Rattle.aft_id.specs.declared.txn_id.TxnId.{TxnId}
@@ -95,9 +95,18 @@ may_end_with (Some replies.TooManyRecords) = true
 may_end_with (Some replies.NoMemory) = true
 may_end_with answer = false
 
--- whether a line's act with its answer may come after a history: an act that does nothing answers, a round and the beginning of a collection don't, and one collection runs at a time
+-- what an entry that does nothing may answer: why a round or a collection isn't made
+abbrev pub may_answer_alone : Option Reply → Bool
+may_answer_alone (Some replies.Collecting) = true
+may_answer_alone (Some replies.StoreFault) = true
+may_answer_alone (Some (replies.Damaged name)) = true
+may_answer_alone (Some replies.TooManyRecords) = true
+may_answer_alone (Some replies.NoMemory) = true
+may_answer_alone answer = false
+
+-- whether a line's act with its answer may come after a history: an act that does nothing answers why, a round and the beginning of a collection don't, and one collection runs at a time
 abbrev pub may_act : List OfficeEntry → By → OfficeAct → Option Reply → Bool
-may_act office by Nothing answer = is_some answer
+may_act office by Nothing answer = may_answer_alone answer
 may_act office by (Round heard missed) answer = is_silent answer
 may_act office by (Posted ids) answer = may_post (last_round by office) ids answer
 may_act office by Collecting answer = is_none (runs office) && is_silent answer
