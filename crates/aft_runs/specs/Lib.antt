@@ -18,3 +18,4 @@ pub mod Asks
 pub mod Replies
 pub mod Promises
 pub mod Unkept
+pub mod LeftOut
