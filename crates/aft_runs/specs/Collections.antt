@@ -117,3 +117,7 @@ says_held = collected 19 (by 2 8) (held_by 1 1) ∷ []
 -- the node gives it up, the door isn't told, and it is said that the node holds it
 abbrev pub gives_up_unsaid : List Work
 gives_up_unsaid = record nothing { nodes = at 1 (node_gives_up ∷ []) } ∷ says_held
+
+-- nobody gives it up, and it is retired
+abbrev pub retires_unasked : List Work
+retires_unasked = retires (by 2 8) (commit_of older) ∷ collected 23 (by 2 8) is_retired ∷ []
