@@ -1,5 +1,6 @@
 -- Runs in which what a boot does or takes in is left open: as the rules say they are legal, and otherwise they are refused.
 use Rattle.std.specs.Prelude.{ℕ, [], ◌∷◌}
+use Rattle.aft_model.specs.declared.node.NodeAct.{NodeAct}
 use Rattle.aft_model.specs.declared.node.NodeAct.TheVariants as turns
 use Rattle.aft_model.specs.declared.reply.Reply.{Reply}
 use Rattle.aft_model.specs.declared.reply.Reply.TheVariants as replies
@@ -18,6 +19,10 @@ serves_at front = run (nodes 1) (
     ∷ boots 3 opening 1 1 []
     ∷ crashes 5 (by 1 1) 1 1
     ∷ record (starts 6 (by 1 2) 1 2 []) { nodes = at 1 (turn 6 (by 1 2) (turns.Booting 2) ∷ answering front (by 1 2) (turns.Boot 2 []) (replies.Started 1 2) ∷ []) } ∷ [])
+
+-- an incarnation is fenced, and its node answers this by that
+abbrev pub crashes_by : NodeAct → Reply → Run
+crashes_by act reply = run (nodes 1) (opens ∷ boots 3 opening 1 1 [] ∷ record (crashes 5 (by 1 1) 1 1) { nodes = at 1 (answering 6 (by 1 1) act reply ∷ []) } ∷ [])
 
 -- an older commit is announced, and then superseded; a node that starts behind that, and is shown both, is told of the older one and answers this
 abbrev pub answers_of_older : Reply → Run

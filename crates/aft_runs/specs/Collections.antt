@@ -11,7 +11,7 @@ use Rattle.aft_runs.specs.Lines.{opening, opens, boots, attempt, begins, puts, f
 use Rattle.aft_runs.specs.Pinned.{older, newer}
 use Rattle.aft_runs.specs.Rounds.{drops, collects, gives_up, retires, collected, held, retired}
 use Rattle.aft_runs.specs.Words.{Writes, write, writes, a, b, commit_of}
-use Rattle.aft_runs.specs.Works.{Work, Run, run, by, at, nodes}
+use Rattle.aft_runs.specs.Works.{Work, Run, run, by, at, nodes, nothing}
 
 -- ---- local rounds
 
@@ -113,3 +113,11 @@ node_gives_up = turn 19 (by 2 8) (turns.GiveUp older.id)
 -- the node isn't asked, and it is said to hold it
 abbrev pub says_held : List Work
 says_held = collected 19 (by 2 8) (held_by 1 1) ∷ []
+
+-- the node gives it up, the door isn't told, and it is said that the node holds it
+abbrev pub gives_up_unsaid : List Work
+gives_up_unsaid = record nothing { nodes = at 1 (node_gives_up ∷ []) } ∷ says_held
+
+-- nobody gives it up, and it is retired
+abbrev pub retires_unasked : List Work
+retires_unasked = retires (by 2 8) (commit_of older) ∷ collected 23 (by 2 8) is_retired ∷ []

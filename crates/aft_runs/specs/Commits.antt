@@ -45,6 +45,17 @@ finds_it = finds (by 1 3) (incarnation 1 1) (record_pair (commit_of x_hi))
 abbrev pub finds_nothing : DoorEntry
 finds_nothing = misses (by 1 3) (incarnation 1 1) (record_of 1)
 
+-- the commit makes these puts, and is answered
+abbrev pub stores_by : List DoorEntry → Work
+stores_by made = record (commits 8 (by 1 3) (attempt 1 1 1) x_hi) { door = made ++ lets_go }
+
+-- the version and then the record, or the record first
+abbrev pub version_first : List DoorEntry
+version_first = stores_version ++ stores_record ∷ []
+
+abbrev pub record_first : List DoorEntry
+record_first = stores_record ∷ stores_version
+
 -- ---- the claim is let go
 
 -- the record is stored, then this is done at the door, and the commit is answered

@@ -4,7 +4,6 @@ use Rattle.std.specs.List.{list_all, flat_map}
 use Rattle.aft_id.specs.declared.txn_id.TxnId.{TxnId}
 use Rattle.aft_keeper.specs.declared.keeper.KeeperCall.TheVariants as calls
 use Rattle.aft_model.specs.Views.{is_left_out_rightly}
-use Rattle.aft_model.specs.declared.caller.By.{By}
 use Rattle.aft_model.specs.declared.node.NodeAct.TheVariants as turns
 use Rattle.aft_model.specs.declared.reply.Reply.{Reply}
 use Rattle.aft_model.specs.declared.reply.Reply.TheVariants as replies
@@ -43,14 +42,14 @@ named =
 abbrev pub of_nodes : List Reply
 of_nodes =
     flat_map (λ node. replies.NotUp node ∷ flat_map (λ inc.
-        replies.Busy node inc ∷ replies.NodeDown node inc ∷ replies.Crashed node inc ∷ replies.Started node inc ∷ replies.IsUp node inc
-        ∷ replies.IsBooting node inc ∷ []) (1 ∷ 2 ∷ [])) (1 ∷ 2 ∷ [])
+    replies.Busy node inc ∷ replies.NodeDown node inc ∷ replies.Crashed node inc ∷ replies.Started node inc ∷ replies.IsUp node inc
+    ∷ replies.IsBooting node inc ∷ []) (1 ∷ 2 ∷ [])) (1 ∷ 2 ∷ [])
 
 -- replies that count
 abbrev pub counts : List Reply
 counts =
     flat_map (λ n. replies.OpenReads n ∷ replies.Dropped n ∷ flat_map (λ m.
-        replies.Announced n m 0 ∷ replies.Learned n m 0 ∷ replies.Learned n 0 m ∷ replies.Managed n m ∷ []) (0 ∷ 1 ∷ [])) (0 ∷ 1 ∷ [])
+    replies.Announced n m 0 ∷ replies.Learned n m 0 ∷ replies.Learned n 0 m ∷ replies.Managed n m ∷ []) (0 ∷ 1 ∷ [])) (0 ∷ 1 ∷ [])
     ++ replies.Collected [] ∷ replies.Collected (record { id = id_of 1000 1; verdict = verdicts.Retired } ∷ [])
     ∷ replies.Collected (record { id = id_of 1000 1; verdict = verdicts.Held 1 1 } ∷ []) ∷ replies.Collected (record { id = id_of 1000 1; verdict = verdicts.Fault } ∷ []) ∷ []
 
@@ -74,8 +73,8 @@ doubted reply = run (nodes 1) (
     ∷ begins 5 (by 1 1) (attempt 1 1 1) 1
     ∷ puts 8 (by 1 2) (attempt 1 1 1) (write x hi)
     ∷ record (asks (by 1 3) commands.Commit) {
-        door = map (stores (by 1 3) (caller_of (attempt 1 1 1))) (version_pairs x_hi)
-            ++ fails (by 1 3) (caller_of (attempt 1 1 1)) (calls.Put (record_pair (commit_of x_hi)).name (record_pair (commit_of x_hi)).bytes)
-            ∷ fails (by 1 3) (caller_of (attempt 1 1 1)) (calls.Get (record_pair (commit_of x_hi)).name) ∷ [];
-        nodes = at 1 (turn 8 (by 1 3) (turns.Start (attempt 1 1 1) 1000 (commit_of x_hi)) ∷ answering 11 (by 1 3) (turns.Doubt (attempt 1 1 1)) reply ∷ []);
+      door = map (stores (by 1 3) (caller_of (attempt 1 1 1))) (version_pairs x_hi)
+          ++ fails (by 1 3) (caller_of (attempt 1 1 1)) (calls.Put (record_pair (commit_of x_hi)).name (record_pair (commit_of x_hi)).bytes)
+          ∷ fails (by 1 3) (caller_of (attempt 1 1 1)) (calls.Get (record_pair (commit_of x_hi)).name) ∷ [];
+      nodes = at 1 (turn 8 (by 1 3) (turns.Start (attempt 1 1 1) 1000 (commit_of x_hi)) ∷ answering 11 (by 1 3) (turns.Doubt (attempt 1 1 1)) reply ∷ []);
     } ∷ [])

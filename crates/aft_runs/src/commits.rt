@@ -1,14 +1,16 @@
 //! Commits by the rules, and others, which are refused.
 
 ghost use Rattle.std.specs.Prelude.{[], ◌∷◌};
-ghost use Rattle.aft_runs.specs.Commits.{finishes, lets_go, answers_behind, finds_it, finds_nothing, answers_after, reads_clock, commits_at};
-ghost use Rattle.aft_runs.specs.Parts.{RefusedBy, Nodes, Courses, Clock, Causes};
+ghost use Rattle.aft_runs.specs.Commits.{finishes, lets_go, stores_by, version_first, record_first, answers_behind, finds_it, finds_nothing, answers_after, reads_clock, commits_at};
+ghost use Rattle.aft_runs.specs.Parts.{RefusedBy, Door, Nodes, Courses, Clock, Causes};
 
-/// What is answered as committed was recorded, and its claim is let go.
+/// What is answered as committed was recorded, behind its versions, and its claim is let go.
 #[tactic(auto, unfolding(aft_histories::proofs::Stored::stored_forms))]
 pub fn answers_refused()
     ensures record_found { RefusedBy [] (finishes (answers_behind finds_it)) }
     ensures no_record_found { RefusedBy (Nodes ∷ Courses ∷ Causes ∷ []) (finishes (answers_behind finds_nothing)) }
+    ensures version_first { RefusedBy [] (finishes (stores_by version_first)) }
+    ensures record_first { RefusedBy (Door ∷ Courses ∷ []) (finishes (stores_by record_first)) }
     ensures let_go { RefusedBy [] (finishes (answers_after lets_go)) }
     ensures not_let_go { RefusedBy (Courses ∷ []) (finishes (answers_after [])) }
 {}

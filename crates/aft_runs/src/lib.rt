@@ -20,7 +20,7 @@ mod replies;
 pub use asks::{endings_refused, lines_refused, orders_refused, places_refused, settings_refused};
 pub use background::{pinned, told};
 pub use begins::begins_refused;
-pub use boots::boots_refused;
+pub use boots::{boots_refused, crashes_refused};
 pub use collections::{drops_refused, give_ups_refused, verdicts_refused};
 pub use commits::{answers_refused, times_refused};
 pub use deliveries::{boxes_refused, rounds_refused};
