@@ -14,3 +14,4 @@ pub mod Services
 pub mod Knowledge
 pub mod Incarnations
 pub mod Pins
+pub mod Newest

@@ -24,7 +24,9 @@ pub use door::{DoorAct, DoorEntry};
 pub use laws::{facts_grow, honest_everywhere, id_commits_once, knowledge_stays};
 pub use mail::{MailAct, MailEntry};
 pub use node::{NodeAct, NodeEntry};
-pub use node_laws::{known_within_incarnation, read_commit_fits, reads_stay_atomic};
+pub use node_laws::{
+    known_within_incarnation, newest_is_not_superseded, read_commit_fits, reads_stay_atomic,
+};
 pub use office::{OfficeAct, OfficeEntry};
 pub use place::Where;
 pub use read_set::{ReadPair, ReadSet};

@@ -1,10 +1,10 @@
 //! Laws of what a node knows and reads, as calls that do nothing and promise them.
 
-ghost use Rattle.std.specs.Prelude.{◌≡◌, ◌++◌, ℕ, List, [], ◌∷◌, None, IsTrue, IsFalse};
+ghost use Rattle.std.specs.Prelude.{◌≡◌, ◌++◌, ℕ, List, [], ◌∷◌, None, Some, IsTrue, IsFalse};
 ghost use Rattle.std.specs.List.{list_any};
 ghost use Rattle.aft_id.specs.TxnId.{zero_id};
 ghost use Rattle.aft_id.specs.declared.txn_id.TxnId.{TxnId};
-ghost use Rattle.aft_records.specs.Superseded.{Superseded, wrote};
+ghost use Rattle.aft_records.specs.Superseded.{Superseded, is_superseded, wrote};
 ghost use Rattle.aft_records.specs.declared.stored.Commit.{Commit};
 ghost use Rattle.aft_model.specs.declared.choice.Blocked.{Blocked};
 ghost use Rattle.aft_model.specs.declared.choice.Choice.TheVariants.{NoneFits};
@@ -36,4 +36,9 @@ pub fn known_within_incarnation()
     ensures pinned_is_known { (node capacity : ℕ) (id : TxnId) (history : List NodeEntry) → LegalNode node capacity history → IsTrue (is_pinned id (part history)) → IsFalse (same_id id zero_id) → IsTrue (has_id id (known history)) }
     ensures pinned_stays { (node capacity inc : ℕ) (id : TxnId) (history : List NodeEntry) (entry : NodeEntry) → LegalNode node capacity (history ++ entry ∷ []) → IsTrue (serves inc (node_state history)) → IsTrue (serves inc (node_state (history ++ entry ∷ []))) → IsTrue (is_pinned id (part history)) → IsTrue (has_id id (known history)) → IsTrue (has_id id (known (history ++ entry ∷ []))) }
     ensures superseded_stays_unknown { (node capacity inc : ℕ) (c : Commit) (history more : List NodeEntry) → LegalNode node capacity (history ++ more) → IsTrue (serves inc (node_state history)) → IsTrue (serves inc (node_state (history ++ more))) → IsFalse (is_among c (known history)) → Superseded c (known history) → IsFalse (is_among c (known (history ++ more))) }
+{}
+
+/// The greatest commit of a key is not superseded by the commits that it is the greatest of.
+pub fn newest_is_not_superseded()
+    ensures { (key : List ℕ) (c : Commit) (commits : List Commit) → IsTrue (wrote key c) → latest key commits ≡ Some c.id → IsFalse (is_superseded c commits) }
 {}
