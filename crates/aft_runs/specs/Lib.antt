@@ -19,3 +19,4 @@ pub mod Replies
 pub mod Promises
 pub mod Unkept
 pub mod LeftOut
+pub mod Aborts

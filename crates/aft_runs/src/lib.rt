@@ -2,6 +2,7 @@
 //! call that does nothing and promises what the definitions say of some of them.
 #![tactic(auto)]
 
+mod aborts;
 mod asks;
 mod background;
 mod begins;
@@ -17,6 +18,7 @@ mod promises;
 mod reading;
 mod replies;
 
+pub use aborts::{aborts_refused, doubts_aborted, running_aborted};
 pub use asks::{endings_refused, lines_refused, orders_refused, places_refused, settings_refused};
 pub use background::{pinned, told};
 pub use begins::begins_refused;
