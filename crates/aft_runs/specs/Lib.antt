@@ -20,3 +20,5 @@ pub mod Promises
 pub mod Unkept
 pub mod LeftOut
 pub mod Aborts
+pub mod HeldClaims
+pub mod BootFaults
