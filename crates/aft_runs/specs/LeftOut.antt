@@ -19,7 +19,7 @@ use Rattle.aft_histories.specs.Entries.{x}
 
 -- the ids of the small runs
 abbrev pub ids : List TxnId
-ids = id_of 1000 1 ∷ id_of 1000 2 ∷ id_of 1000 3 ∷ id_of 1001 1 ∷ id_of 1001 3 ∷ []
+ids = id_of 1000 1 ∷ id_of 1000 2 ∷ id_of 1000 3 ∷ id_of 1001 1 ∷ id_of 1001 2 ∷ id_of 1001 3 ∷ []
 
 -- their values
 abbrev pub values : List (List ℕ)
@@ -50,7 +50,8 @@ abbrev pub counts : List Reply
 counts =
     flat_map (λ n. replies.OpenReads n ∷ replies.Dropped n ∷ flat_map (λ m.
     replies.Announced n m 0 ∷ replies.Learned n m 0 ∷ replies.Learned n 0 m ∷ replies.Managed n m ∷ []) (0 ∷ 1 ∷ [])) (0 ∷ 1 ∷ [])
-    ++ replies.Collected [] ∷ replies.Collected (record { id = id_of 1000 1; verdict = verdicts.Retired } ∷ [])
+    ++ replies.Announced 2 0 0 ∷ replies.Announced 2 0 1 ∷ replies.Announced 1 0 1 ∷ replies.Learned 2 0 0 ∷ replies.Managed 1 2 ∷ replies.Managed 0 2 ∷ replies.Managed 2 0 ∷ replies.Dropped 2
+    ∷ replies.Collected [] ∷ replies.Collected (record { id = id_of 1000 1; verdict = verdicts.Retired } ∷ [])
     ∷ replies.Collected (record { id = id_of 1000 1; verdict = verdicts.Held 1 1 } ∷ []) ∷ replies.Collected (record { id = id_of 1000 1; verdict = verdicts.Fault } ∷ []) ∷ []
 
 -- whether a run leaves out none of these replies where it should have answered it

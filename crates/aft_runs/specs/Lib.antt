@@ -22,3 +22,4 @@ pub mod LeftOut
 pub mod Aborts
 pub mod HeldClaims
 pub mod BootFaults
+pub mod FullBoxes

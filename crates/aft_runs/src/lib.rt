@@ -5,6 +5,7 @@
 mod aborts;
 mod held_claims;
 mod boot_faults;
+mod full_boxes;
 mod asks;
 mod background;
 mod begins;
@@ -23,6 +24,7 @@ mod replies;
 pub use aborts::{aborts_refused, doubts_aborted, running_aborted};
 pub use held_claims::{claims_held, claims_refused};
 pub use boot_faults::{boot_faults_refused, boot_tried_again};
+pub use full_boxes::{box_full, full_boxes_refused};
 pub use asks::{endings_refused, lines_refused, orders_refused, places_refused, settings_refused};
 pub use background::{pinned, told};
 pub use begins::begins_refused;
