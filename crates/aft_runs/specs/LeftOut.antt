@@ -23,7 +23,7 @@ ids = id_of 1000 1 ∷ id_of 1000 2 ∷ id_of 1000 3 ∷ id_of 1001 1 ∷ id_of 
 
 -- their values
 abbrev pub values : List (List ℕ)
-values = hi ∷ a ∷ b ∷ codes "old" ∷ []
+values = hi ∷ a ∷ b ∷ codes "old" ∷ codes "9" ∷ []
 
 -- replies without parameters
 abbrev pub plain : List Reply

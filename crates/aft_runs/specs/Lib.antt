@@ -23,3 +23,5 @@ pub mod Aborts
 pub mod HeldClaims
 pub mod BootFaults
 pub mod FullBoxes
+pub mod Shared
+pub mod Crashes

@@ -1,0 +1,29 @@
+//! A run in which two clients share an attempt, and others, which are refused.
+
+ghost use Rattle.std.specs.Prelude.{[], ◌∷◌};
+ghost use Rattle.aft_model.specs.Headline.{Headline};
+ghost use Rattle.aft_model.specs.Honest.{Honest};
+ghost use Rattle.aft_model.specs.LegalTrace.{LegalTrace};
+ghost use Rattle.aft_model.specs.declared.reply.Reply.TheVariants as replies;
+ghost use Rattle.aft_model.specs.declared.script.Command.TheVariants.{Commit};
+ghost use Rattle.aft_runs.specs.LeftOut.{AnswersAll};
+ghost use Rattle.aft_runs.specs.Parts.{RefusedBy, Nodes, Causes};
+ghost use Rattle.aft_runs.specs.Shared.{shares, shared_attempt, reads_are_open, commits_beside, answers};
+
+/// Two clients share an attempt, and each finds what the other one's line is about.
+#[tactic(auto, unfolding(aft_histories::proofs::Stored::stored_forms))]
+pub fn attempt_shared()
+    ensures legal { LegalTrace shared_attempt.asked shared_attempt.ran }
+    ensures honest { Honest shared_attempt.ran.trace.door }
+    ensures promise { Headline shared_attempt.ran.trace }
+    ensures answers_all { AnswersAll shared_attempt }
+{}
+
+/// No commit starts while a read is open, and as many are answered as there are.
+#[tactic(auto, unfolding(aft_histories::proofs::Stored::stored_forms))]
+pub fn sharing_refused()
+    ensures one_open { RefusedBy [] (shares reads_are_open 14 []) }
+    ensures two_open { RefusedBy (Causes ∷ []) (shares (answers 14 8 Commit (replies.OpenReads 2) ∷ []) 14 []) }
+    ensures committing { RefusedBy (Causes ∷ []) (shares (answers 14 8 Commit replies.Committing ∷ []) 14 []) }
+    ensures committed_beside { RefusedBy (Nodes ∷ []) (shares commits_beside 17 []) }
+{}
