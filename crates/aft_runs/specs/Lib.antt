@@ -25,3 +25,4 @@ pub mod BootFaults
 pub mod FullBoxes
 pub mod Shared
 pub mod Crashes
+pub mod Threads
