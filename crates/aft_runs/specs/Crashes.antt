@@ -7,13 +7,11 @@ use Rattle.aft_model.specs.declared.node.NodeAct.TheVariants as turns
 use Rattle.aft_model.specs.declared.reply.Reply.TheVariants as replies
 use Rattle.aft_model.specs.declared.script.Command.TheVariants as commands
 use Rattle.aft_histories.specs.Entries.{x, y}
-use Rattle.aft_runs.specs.Asks.{ordered, whole}
 use Rattle.aft_runs.specs.Entries.{does, stores, turn, answering}
 use Rattle.aft_runs.specs.Lines.{opening, opens, boots, attempt, begins, puts, gets_absent, fetches, commits, crashes}
 use Rattle.aft_runs.specs.Reads.{both}
-use Rattle.aft_runs.specs.Shared.{step}
 use Rattle.aft_runs.specs.Words.{Writes, write, writes, a, b, commit_of, version_pair}
-use Rattle.aft_runs.specs.Works.{Work, Run, run, by, at, nodes, nothing, asks}
+use Rattle.aft_runs.specs.Works.{Work, Run, run, ordered, whole, step, by, at, nodes, nothing, asks}
 
 -- a commit of x and y is fixed, and the version of x is stored
 abbrev pub stores_one : Work

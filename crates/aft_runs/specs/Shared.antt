@@ -9,18 +9,11 @@ use Rattle.aft_model.specs.declared.script.Command.{Command}
 use Rattle.aft_model.specs.declared.script.Command.TheVariants as commands
 use Rattle.aft_model.specs.declared.script.Step.{Step}
 use Rattle.aft_histories.specs.Entries.{u, x, y}
-use Rattle.aft_runs.specs.Asks.{ordered, whole}
 use Rattle.aft_runs.specs.Entries.{finds, turn, answering}
 use Rattle.aft_runs.specs.Lines.{opening, opens, boots, attempt, caller_of, begins, puts, commits, releases}
 use Rattle.aft_runs.specs.Reads.{x_hi}
 use Rattle.aft_runs.specs.Words.{Writes, write, writes, hi, a, commit_of, version_pair}
-use Rattle.aft_runs.specs.Works.{Work, Run, run, by, at, nodes, nothing, asks}
-
--- ---- words
-
--- a word that runs a line of a client by one turn
-abbrev pub step : ℕ → Step
-step client = record { client = client; whole = false }
+use Rattle.aft_runs.specs.Works.{Work, Run, run, ordered, whole, step, by, at, nodes, nothing, asks}
 
 -- ---- the first client's get and commit, in two parts each
 

@@ -13,15 +13,11 @@ use Rattle.aft_runs.specs.Lines.{opening, opens, boots, attempt, begins, puts, f
 use Rattle.aft_runs.specs.Reads.{x_hi}
 use Rattle.aft_runs.specs.Rounds.{announces, learns, drops, collects, collected, posts, takes}
 use Rattle.aft_runs.specs.Words.{write, hi, commit_of}
-use Rattle.aft_runs.specs.Works.{Work, Run, run, by, nodes, at, nothing}
+use Rattle.aft_runs.specs.Works.{Work, Run, run, threaded, by, nodes, at, nothing}
 
 -- one node, and one round of each kind in the background
 abbrev pub one_round : Settings
 one_round = record (nodes 1) { rounds = 1 }
-
--- a run with threads
-abbrev pub threaded : Run → Run
-threaded told = record told { asked = record told.asked { order = None } }
 
 -- work for a line that isn't of the script
 abbrev pub unasked : Work → Work
