@@ -11,7 +11,7 @@ use Rattle.aft_model.specs.declared.reply.Reply.TheVariants as replies
 use Rattle.aft_model.specs.declared.script.Command.TheVariants as commands
 use Rattle.aft_histories.specs.Entries.{u, x, y, record_of, record_pair}
 use Rattle.aft_runs.specs.Entries.{misses, finds, turn, answering}
-use Rattle.aft_runs.specs.Lines.{opening, opens, boots, attempt, begins, puts, gets_absent, fetches, doubts, releases}
+use Rattle.aft_runs.specs.Lines.{opening, opens, boots, attempt, begins, puts, gets_absent, fetches, doubts, releases, aborts, only_answers}
 use Rattle.aft_runs.specs.Reads.{x_hi}
 use Rattle.aft_runs.specs.Words.{write, hi, a, commit_of}
 use Rattle.aft_runs.specs.Works.{Work, Run, run, by, at, nodes, asks}
@@ -25,10 +25,7 @@ leaves_and reply = run (nodes 1) (
     ∷ boots 3 opening 1 1 []
     ∷ begins 5 (by 1 1) (attempt 1 1 1) 1
     ∷ puts 8 (by 1 2) (attempt 1 1 1) (write x hi)
-    ∷ record (asks (by 1 3) commands.Abort) {
-      door = releases (by 1 3) (attempt 1 1 1) (u 1) ∷ [];
-      nodes = at 1 (turn 8 (by 1 3) (turns.Leave (attempt 1 1 1)) ∷ answering 9 (by 1 3) (turns.End (attempt 1 1 1)) reply ∷ []);
-    }
+    ∷ record (aborts 8 (by 1 3) (attempt 1 1 1) 1) { nodes = at 1 (turn 8 (by 1 3) (turns.Leave (attempt 1 1 1)) ∷ answering 9 (by 1 3) (turns.End (attempt 1 1 1)) reply ∷ []) }
     ∷ begins 9 (by 1 4) (attempt 1 1 2) 2
     ∷ gets_absent 12 (by 1 5) (attempt 1 1 2) x ∷ [])
 
@@ -38,11 +35,7 @@ aborted = leaves_and replies.Aborted
 
 -- ---- of one in doubt
 
--- a line speaks of a transaction whose commit is in doubt, and is refused
-abbrev pub is_committing : Work
-is_committing = record (asks (by 1 4) (commands.Put y a)) { nodes = at 1 (answering 11 (by 1 4) turns.Nothing replies.Committing ∷ []) }
-
--- an abort of it makes this get of its record and lets its claim go, and its node does this
+-- its abort makes this get of its record and lets its claim go, and its node does this
 abbrev pub settles_by : DoorEntry → List NodeEntry → Work
 settles_by get ending = record (asks (by 1 5) commands.Abort) {
   door = get ∷ releases (by 1 5) (attempt 1 1 1) (u 1) ∷ [];
@@ -63,7 +56,7 @@ is_aborted = answering 13 (by 1 5) (turns.End (attempt 1 1 1)) replies.Aborted �
 abbrev pub is_stored : List NodeEntry
 is_stored = turn 12 (by 1 5) (turns.Stored (attempt 1 1 1) (commit_of x_hi)) ∷ answering 13 (by 1 5) (turns.End (attempt 1 1 1)) (replies.Committed x_hi.id) ∷ []
 
--- it isn't known whether a transaction's record is stored; it is aborted by this get and with this ending, and another gets x so
+-- it isn't known whether a transaction's record is stored; a put is refused, then the transaction is aborted by this get and with this ending, and another gets x so
 abbrev pub aborts_doubt : DoorEntry → List NodeEntry → Work → Run
 aborts_doubt get ending last = run (nodes 1) (
     opens
@@ -71,7 +64,7 @@ aborts_doubt get ending last = run (nodes 1) (
     ∷ begins 5 (by 1 1) (attempt 1 1 1) 1
     ∷ puts 8 (by 1 2) (attempt 1 1 1) (write x hi)
     ∷ doubts 8 (by 1 3) (attempt 1 1 1) x_hi
-    ∷ is_committing
+    ∷ only_answers 11 (by 1 4) 1 (commands.Put y a) replies.Committing
     ∷ settles_by get ending
     ∷ begins 13 (by 1 6) (attempt 1 1 2) 2
     ∷ last ∷ [])

@@ -10,7 +10,7 @@ use Rattle.aft_model.specs.declared.reply.Reply.TheVariants as replies
 use Rattle.aft_model.specs.declared.script.Command.TheVariants as commands
 use Rattle.aft_histories.specs.Entries.{u, x, record_pair}
 use Rattle.aft_runs.specs.Entries.{does, fails, lists, turn, answering}
-use Rattle.aft_runs.specs.Lines.{opening, opens, boots, attempt, begins, puts, fetches, commits, crashes}
+use Rattle.aft_runs.specs.Lines.{opening, opens, boots, attempt, begins, puts, fetches, commits, crashes, only_answers}
 use Rattle.aft_runs.specs.Reads.{x_hi}
 use Rattle.aft_runs.specs.Words.{write, hi, commit_of}
 use Rattle.aft_runs.specs.Works.{Work, Run, run, by, at, nodes, asks}
@@ -21,10 +21,6 @@ fails_and act reply = record (asks (by 2 5) (commands.Start 1)) {
   door = does (by 2 5) (acts.Up 1 2) ∷ fails (by 2 5) (incarnation 1 2) (calls.Scan (codes "c/") [] 64) ∷ [];
   nodes = at 1 (turn 12 (by 2 5) (turns.Booting 2) ∷ answering 14 (by 2 5) act reply ∷ []);
 }
-
--- a begin finds that the node doesn't serve
-abbrev pub finds_down : Work
-finds_down = record (asks (by 1 6) (commands.Begin (u 2) 1)) { nodes = at 1 (answering 14 (by 1 6) turns.Nothing (replies.NodeDown 1 2) ∷ []) }
 
 -- the next start goes on with the incarnation that is up, and its scan is whole
 abbrev pub tries_again : Work
@@ -43,7 +39,7 @@ boot_fault = run (nodes 1) (
     ∷ commits 8 (by 1 3) (attempt 1 1 1) x_hi
     ∷ crashes 11 (by 2 4) 1 1
     ∷ fails_and (turns.BootStopped 2) replies.StoreFault
-    ∷ finds_down
+    ∷ only_answers 14 (by 1 6) 1 (commands.Begin (u 2) 1) (replies.NodeDown 1 2)
     ∷ tries_again
     ∷ begins 15 (by 1 8) (attempt 1 2 1) 2
     ∷ fetches 18 (by 1 9) (attempt 1 2 1) x_hi.id (write x hi) ∷ [])

@@ -10,7 +10,7 @@ use Rattle.aft_model.specs.declared.script.Command.TheVariants as commands
 use Rattle.aft_model.specs.declared.script.Step.{Step}
 use Rattle.aft_histories.specs.Entries.{u, x, y}
 use Rattle.aft_runs.specs.Entries.{finds, turn, answering}
-use Rattle.aft_runs.specs.Lines.{opening, opens, boots, attempt, caller_of, begins, puts, commits, releases}
+use Rattle.aft_runs.specs.Lines.{opening, opens, boots, attempt, caller_of, begins, puts, commits, only_answers}
 use Rattle.aft_runs.specs.Reads.{x_hi}
 use Rattle.aft_runs.specs.Words.{Writes, write, writes, hi, a, commit_of, version_pair}
 use Rattle.aft_runs.specs.Works.{Work, Run, run, ordered, whole, step, by, at, nodes, nothing, asks}
@@ -45,13 +45,9 @@ ends_commit = record nothing {
 
 -- ---- what the second client does beside them
 
--- a line that does nothing and answers this, having seen so much of the door's history
-abbrev pub answers : ℕ → ℕ → Command → Reply → Work
-answers front line command reply = record (asks (by 2 line) command) { nodes = at 1 (answering front (by 2 line) turns.Nothing reply ∷ []) }
-
--- it commits while the get isn't over, and is refused
-abbrev pub reads_are_open : List Work
-reads_are_open = answers 14 8 commands.Commit (replies.OpenReads 1) ∷ []
+-- its commit, beside the get, does nothing and answers this
+abbrev pub commit_answers : Reply → List Work
+commit_answers reply = only_answers 14 (by 2 8) 1 commands.Commit reply ∷ []
 
 -- it commits all the same
 abbrev pub commits_beside : List Work
@@ -68,11 +64,11 @@ shares beside place later = ordered (whole 1 ∷ whole 1 ∷ whole 1 ∷ whole 1
     ∷ puts 8 (by 1 2) (attempt 1 1 1) (write x hi)
     ∷ commits 8 (by 1 3) (attempt 1 1 1) x_hi
     ∷ begins 11 (by 1 4) (attempt 1 1 2) 2
-    ∷ answers 14 5 (commands.Begin (u 2) 1) (replies.Joined (u 2))
+    ∷ only_answers 14 (by 2 5) 1 (commands.Begin (u 2) 1) (replies.Joined (u 2))
     ∷ puts 14 (by 1 6) (attempt 1 1 2) (write y a)
     ∷ begins_get
     ∷ beside ++ ends_get place ∷ later))
 
 -- the second client's commit finds the get that isn't over, and its get finds the first client's commit
 abbrev pub shared_attempt : Run
-shared_attempt = shares reads_are_open 14 (begins_commit ∷ answers 15 10 (commands.Get x) replies.Committing ∷ ends_commit ∷ [])
+shared_attempt = shares (commit_answers (replies.OpenReads 1)) 14 (begins_commit ∷ only_answers 15 (by 2 10) 1 (commands.Get x) replies.Committing ∷ ends_commit ∷ [])

@@ -5,10 +5,9 @@ ghost use Rattle.aft_model.specs.Headline.{Headline};
 ghost use Rattle.aft_model.specs.Honest.{Honest};
 ghost use Rattle.aft_model.specs.LegalTrace.{LegalTrace};
 ghost use Rattle.aft_model.specs.declared.reply.Reply.TheVariants as replies;
-ghost use Rattle.aft_model.specs.declared.script.Command.TheVariants.{Commit};
 ghost use Rattle.aft_runs.specs.LeftOut.{AnswersAll};
 ghost use Rattle.aft_runs.specs.Parts.{RefusedBy, Nodes, Causes};
-ghost use Rattle.aft_runs.specs.Shared.{shares, shared_attempt, reads_are_open, commits_beside, answers};
+ghost use Rattle.aft_runs.specs.Shared.{shares, shared_attempt, commit_answers, commits_beside};
 
 /// Two clients share an attempt, and each finds what the other one's line is about.
 #[tactic(auto, unfolding(aft_histories::proofs::Stored::stored_forms))]
@@ -22,8 +21,8 @@ pub fn attempt_shared()
 /// No commit starts while a read is open, and as many are answered as there are.
 #[tactic(auto, unfolding(aft_histories::proofs::Stored::stored_forms))]
 pub fn sharing_refused()
-    ensures one_open { RefusedBy [] (shares reads_are_open 14 []) }
-    ensures two_open { RefusedBy (Causes ∷ []) (shares (answers 14 8 Commit (replies.OpenReads 2) ∷ []) 14 []) }
-    ensures committing { RefusedBy (Causes ∷ []) (shares (answers 14 8 Commit replies.Committing ∷ []) 14 []) }
+    ensures one_open { RefusedBy [] (shares (commit_answers (replies.OpenReads 1)) 14 []) }
+    ensures two_open { RefusedBy (Causes ∷ []) (shares (commit_answers (replies.OpenReads 2)) 14 []) }
+    ensures committing { RefusedBy (Causes ∷ []) (shares (commit_answers replies.Committing) 14 []) }
     ensures committed_beside { RefusedBy (Nodes ∷ []) (shares commits_beside 17 []) }
 {}
