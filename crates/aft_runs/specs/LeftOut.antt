@@ -43,7 +43,7 @@ abbrev pub of_nodes : List Reply
 of_nodes =
     flat_map (λ node. replies.NotUp node ∷ flat_map (λ inc.
     replies.Busy node inc ∷ replies.NodeDown node inc ∷ replies.Crashed node inc ∷ replies.Started node inc ∷ replies.IsUp node inc
-    ∷ replies.IsBooting node inc ∷ []) (1 ∷ 2 ∷ [])) (1 ∷ 2 ∷ [])
+    ∷ replies.IsBooting node inc ∷ []) (1 ∷ 2 ∷ 3 ∷ [])) (1 ∷ 2 ∷ [])
 
 -- replies that count
 abbrev pub counts : List Reply

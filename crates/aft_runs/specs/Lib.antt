@@ -26,3 +26,5 @@ pub mod FullBoxes
 pub mod Shared
 pub mod Crashes
 pub mod Threads
+pub mod Retries
+pub mod Incarnations
