@@ -1,5 +1,5 @@
 -- Runs in which a transaction is aborted, also one whose commit is in doubt; and such runs in which the abort is left open.
-use Rattle.std.specs.Prelude.{◌+◌, List, [], ◌∷◌, length}
+use Rattle.std.specs.Prelude.{ℕ, ◌+◌, List, [], ◌∷◌, length}
 use Rattle.aft_model.specs.Membership.{incarnation}
 use Rattle.aft_model.specs.declared.caller.Attempt.{Attempt}
 use Rattle.aft_model.specs.declared.caller.By.{By}
@@ -83,3 +83,31 @@ doubt_aborted = aborts_doubt finds_nothing is_aborted x_is_absent
 -- the record is found, and the abort answers that the transaction is committed
 abbrev pub doubt_committed : Run
 doubt_committed = aborts_doubt finds_it is_stored x_is_there
+
+-- ---- and where memory is wanting behind the get
+
+-- it isn't known whether a transaction's record is stored; its abort does this at the door, and its node does that
+abbrev pub aborts_so : List DoorEntry → List NodeEntry → Run
+aborts_so made ending = run (nodes 1) (
+    opens
+    ∷ boots 3 opening 1 1 []
+    ∷ begins 5 (by 1 1) (attempt 1 1 1) 1
+    ∷ puts 8 (by 1 2) (attempt 1 1 1) (write x hi)
+    ∷ doubts 8 (by 1 3) (attempt 1 1 1) x_hi
+    ∷ record (asks (by 1 5) commands.Abort) { door = made; nodes = at 1 (turn 11 (by 1 5) (turns.Settle (attempt 1 1 1)) ∷ ending) } ∷ [])
+
+-- the transaction is in doubt still, for want of memory
+abbrev pub in_doubt_still : ℕ → NodeEntry
+in_doubt_still front = answering front (by 1 5) (turns.Doubt (attempt 1 1 1)) replies.NoMemory
+
+-- a get that found nothing, and its claim is kept
+abbrev pub doubt_kept : Run
+doubt_kept = aborts_so (finds_nothing ∷ []) (in_doubt_still 12 ∷ [])
+
+-- its claim is let go
+abbrev pub doubt_let_go : Run
+doubt_let_go = aborts_so (finds_nothing ∷ releases (by 1 5) (attempt 1 1 1) (u 1) ∷ []) (in_doubt_still 13 ∷ [])
+
+-- its record is found and stored, and its claim is kept
+abbrev pub doubt_stored : Run
+doubt_stored = aborts_so (finds_it ∷ []) (turn 12 (by 1 5) (turns.Stored (attempt 1 1 1) (commit_of x_hi)) ∷ in_doubt_still 12 ∷ [])

@@ -81,3 +81,28 @@ full_box = commits_both (announces_both 1 (c_x ∷ []) 1) (
 -- the same up to the announcement
 abbrev pub announced_both : ℕ → List Commit → ℕ → Run
 announced_both taken told dropped = commits_both (announces_both taken told dropped) []
+
+-- ---- the manager's post is refused
+
+-- a round of the manager, whose post of the missed one the second node's box refuses, and which notes these as posted
+abbrev pub refused_round : List Commit → Work
+refused_round noted = record (rounds_up 20 8 (c_x ∷ []) (c_y ∷ [])) {
+  office = says 20 (by 1 8) (desk.Round (c_x ∷ []) (c_y ∷ [])) ∷ closes 20 (by 1 8) (desk.Posted (ids noted)) (replies.Managed 1 1) ∷ [];
+  boxes = λ box. at 0 (takes (by 1 8) (c_x ∷ []) ∷ []) box ++ at 1 (posts (by 1 8) (c_y ∷ []) ∷ []) box ++ at 2 (record { by = by 1 8; act = letters.Post (ids (c_y ∷ [])) 0 } ∷ []) box;
+}
+
+-- the manager finds the commit missed while the second node's box is full, and notes these as posted; then this is done
+abbrev pub rounds_at_full : List Commit → List Work → Run
+rounds_at_full noted later = commits_both (announces_both 1 (c_x ∷ []) 1) (refused_round noted ∷ later)
+
+-- a node learns a commit that it knows
+abbrev pub learns_known : Work
+learns_known = record (learns 20 (by 1 10) 1 (c_y ∷ [])) { nodes = at 1 (answering 20 (by 1 10) (turns.Learn (c_y ∷ [])) (replies.Learned 0 0 1) ∷ []) }
+
+-- what the box refused isn't noted, so the next round finds it missed again
+abbrev pub full_again : Run
+full_again = rounds_at_full [] (
+    learns 20 (by 1 9) 2 (c_x ∷ [])
+    ∷ learns_known
+    ∷ rounds_up 21 11 [] (c_y ∷ [])
+    ∷ learns 21 (by 1 12) 2 (c_y ∷ []) ∷ [])

@@ -28,3 +28,5 @@ pub mod Crashes
 pub mod Threads
 pub mod Retries
 pub mod Incarnations
+pub mod LostMail
+pub mod Clocks

@@ -5,7 +5,7 @@ ghost use Rattle.aft_model.specs.Headline.{Headline};
 ghost use Rattle.aft_model.specs.Honest.{Honest};
 ghost use Rattle.aft_model.specs.LegalTrace.{LegalTrace};
 ghost use Rattle.aft_model.specs.declared.reply.Reply.TheVariants as replies;
-ghost use Rattle.aft_runs.specs.Aborts.{leaves_and, aborted, aborts_doubt, finds_it, finds_nothing, is_aborted, is_stored, x_is_absent, x_is_there, doubt_aborted, doubt_committed};
+ghost use Rattle.aft_runs.specs.Aborts.{leaves_and, aborted, aborts_doubt, finds_it, finds_nothing, is_aborted, is_stored, x_is_absent, x_is_there, doubt_aborted, doubt_committed, doubt_kept, doubt_let_go, doubt_stored};
 ghost use Rattle.aft_runs.specs.LeftOut.{AnswersAll};
 ghost use Rattle.aft_runs.specs.Parts.{RefusedBy, Nodes, Courses, Causes};
 
@@ -40,4 +40,12 @@ pub fn aborts_refused()
     ensures aborted_though_found { RefusedBy (Nodes ∷ Courses ∷ Causes ∷ []) (aborts_doubt finds_it is_aborted x_is_absent) }
     ensures found { RefusedBy [] (aborts_doubt finds_it is_stored x_is_there) }
     ensures stored_though_absent { RefusedBy (Nodes ∷ Courses ∷ Causes ∷ []) (aborts_doubt finds_nothing is_stored x_is_there) }
+{}
+
+/// One in doubt that is in doubt still keeps its claim, and once its record is stored it isn't in doubt for want of memory.
+#[tactic(auto, unfolding(aft_histories::proofs::Stored::stored_forms))]
+pub fn doubts_refused()
+    ensures kept { RefusedBy [] doubt_kept }
+    ensures let_go { RefusedBy (Courses ∷ []) doubt_let_go }
+    ensures stored { RefusedBy (Courses ∷ []) doubt_stored }
 {}

@@ -4,7 +4,7 @@ ghost use Rattle.std.specs.Prelude.{[], ◌∷◌};
 ghost use Rattle.aft_model.specs.Headline.{Headline};
 ghost use Rattle.aft_model.specs.Honest.{Honest};
 ghost use Rattle.aft_model.specs.LegalTrace.{LegalTrace};
-ghost use Rattle.aft_runs.specs.FullBoxes.{c_x, c_y, full_box, announced_both};
+ghost use Rattle.aft_runs.specs.FullBoxes.{c_x, c_y, full_box, announced_both, rounds_at_full, full_again};
 ghost use Rattle.aft_runs.specs.LeftOut.{AnswersAll};
 ghost use Rattle.aft_runs.specs.Parts.{RefusedBy, Boxes, Posts, Causes};
 
@@ -15,6 +15,10 @@ pub fn box_full()
     ensures honest { Honest full_box.ran.trace.door }
     ensures promise { Headline full_box.ran.trace }
     ensures answers_all { AnswersAll full_box }
+    ensures again_legal { LegalTrace full_again.asked full_again.ran }
+    ensures again_honest { Honest full_again.ran.trace.door }
+    ensures again_promise { Headline full_again.ran.trace }
+    ensures again_answers_all { AnswersAll full_again }
 {}
 
 /// A box takes what it has room for, the office is told of just that, and the answer counts what was refused.
@@ -27,4 +31,6 @@ pub fn full_boxes_refused()
     ensures none_said_dropped { RefusedBy (Causes ∷ []) (announced_both 1 (c_x ∷ []) 0) }
     ensures other_told { RefusedBy (Posts ∷ []) (announced_both 1 (c_y ∷ []) 1) }
     ensures nothing_told { RefusedBy (Posts ∷ []) (announced_both 1 [] 1) }
+    ensures none_noted { RefusedBy [] (rounds_at_full [] []) }
+    ensures refused_noted { RefusedBy (Posts ∷ []) (rounds_at_full (c_y ∷ []) []) }
 {}
