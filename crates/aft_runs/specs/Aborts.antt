@@ -1,8 +1,6 @@
 -- Runs in which a transaction is aborted, also one whose commit is in doubt; and such runs in which the abort is left open.
-use Rattle.std.specs.Prelude.{ℕ, ◌+◌, List, [], ◌∷◌, length}
+use Rattle.std.specs.Prelude.{ℕ, List, [], ◌∷◌}
 use Rattle.aft_model.specs.Membership.{incarnation}
-use Rattle.aft_model.specs.declared.caller.Attempt.{Attempt}
-use Rattle.aft_model.specs.declared.caller.By.{By}
 use Rattle.aft_model.specs.declared.door.DoorEntry.{DoorEntry}
 use Rattle.aft_model.specs.declared.node.NodeAct.TheVariants as turns
 use Rattle.aft_model.specs.declared.node.NodeEntry.{NodeEntry}

@@ -1,5 +1,5 @@
 -- Runs in which how they fit what was asked is left open: as the rules say they are legal, and otherwise they are refused.
-use Rattle.std.specs.Prelude.{ℕ, false, true, List, [], ◌∷◌, Some}
+use Rattle.std.specs.Prelude.{ℕ, List, [], ◌∷◌}
 use Rattle.aft_model.specs.Membership.{incarnation}
 use Rattle.aft_model.specs.declared.caller.Attempt.{Attempt}
 use Rattle.aft_model.specs.declared.door.DoorEntry.{DoorEntry}

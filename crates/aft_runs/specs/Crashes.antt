@@ -1,13 +1,12 @@
 -- A run in which a node crashes between the puts of a commit, which is begun again at another node; and that run where what the commit does behind the crash is left open.
 use Rattle.std.specs.Prelude.{◌+◌, List, [], ◌∷◌, codes, length}
 use Rattle.aft_model.specs.Membership.{incarnation}
-use Rattle.aft_model.specs.declared.door.DoorAct.TheVariants as acts
 use Rattle.aft_model.specs.declared.door.DoorEntry.{DoorEntry}
 use Rattle.aft_model.specs.declared.node.NodeAct.TheVariants as turns
 use Rattle.aft_model.specs.declared.reply.Reply.TheVariants as replies
 use Rattle.aft_model.specs.declared.script.Command.TheVariants as commands
 use Rattle.aft_histories.specs.Entries.{x, y}
-use Rattle.aft_runs.specs.Entries.{does, stores, turn, answering}
+use Rattle.aft_runs.specs.Entries.{stores, turn, answering}
 use Rattle.aft_runs.specs.Lines.{opening, opens, boots, attempt, begins, puts, gets_absent, fetches, commits, crashes}
 use Rattle.aft_runs.specs.Reads.{both}
 use Rattle.aft_runs.specs.Words.{Writes, write, writes, a, b, commit_of, version_pair}

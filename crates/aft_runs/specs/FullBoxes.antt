@@ -1,6 +1,5 @@
 -- A run in which a mailbox is full, so that the manager finds what it refused; and that run where what the box takes is left open.
 use Rattle.std.specs.Prelude.{ℕ, List, [], ◌∷◌, ◌++◌, codes, map, length}
-use Rattle.aft_id.specs.declared.txn_id.TxnId.{TxnId}
 use Rattle.aft_records.specs.declared.stored.Commit.{Commit}
 use Rattle.aft_model.specs.Asked.{Settings}
 use Rattle.aft_model.specs.Membership.{the_office}

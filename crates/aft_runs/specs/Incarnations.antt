@@ -8,7 +8,7 @@ use Rattle.aft_model.specs.declared.node.NodeAct.TheVariants as turns
 use Rattle.aft_model.specs.declared.reply.Reply.{Reply}
 use Rattle.aft_model.specs.declared.reply.Reply.TheVariants as replies
 use Rattle.aft_model.specs.declared.script.Command.TheVariants as commands
-use Rattle.aft_histories.specs.Entries.{u, x}
+use Rattle.aft_histories.specs.Entries.{x}
 use Rattle.aft_runs.specs.Entries.{does, lists, turn, answering}
 use Rattle.aft_runs.specs.Lines.{opening, opens, boots, attempt, begins, crashes, starts, only_answers}
 use Rattle.aft_runs.specs.Words.{hi}

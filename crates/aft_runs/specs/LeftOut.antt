@@ -1,5 +1,5 @@
 -- Replies that a run may have left out, and runs that leave one out.
-use Rattle.std.specs.Prelude.{ℕ, Bool, List, [], ◌∷◌, ◌++◌, codes, map, IsTrue, IsFalse}
+use Rattle.std.specs.Prelude.{ℕ, ◌-◌, ◌^◌, Bool, List, [], ◌∷◌, ◌++◌, codes, map, IsTrue, IsFalse}
 use Rattle.std.specs.List.{list_all, flat_map}
 use Rattle.aft_id.specs.declared.txn_id.TxnId.{TxnId}
 use Rattle.aft_keeper.specs.declared.keeper.KeeperCall.TheVariants as calls
@@ -35,7 +35,7 @@ plain =
 abbrev pub named : List Reply
 named =
     map (λ n. replies.Begun (u n)) (1 ∷ 2 ∷ 3 ∷ 9 ∷ []) ++ map (λ n. replies.Joined (u n)) (1 ∷ 2 ∷ 3 ∷ 9 ∷ [])
-    ++ map replies.Committed ids ++ map replies.Missing ids ++ map replies.Own values
+    ++ map replies.Committed (id_of 1 1 ∷ id_of (2 ^ 48 - 1) 1 ∷ ids) ++ map replies.Missing ids ++ map replies.Own values
     ++ flat_map (λ id. map (replies.Value id) values) ids ++ replies.NoValidVersion (x_was_absent both ∷ []) ∷ replies.NoValidVersion [] ∷ []
 
 -- replies that name an incarnation

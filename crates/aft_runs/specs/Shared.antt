@@ -1,13 +1,10 @@
 -- A run in which two clients share an attempt, and their lines run turn by turn; and that run where what the second does beside a get is left open.
-use Rattle.std.specs.Prelude.{ℕ, ◌+◌, true, false, List, [], ◌∷◌, ◌++◌}
-use Rattle.aft_model.specs.declared.caller.By.{By}
+use Rattle.std.specs.Prelude.{ℕ, ◌+◌, true, List, [], ◌∷◌, ◌++◌}
 use Rattle.aft_model.specs.declared.choice.Picked.TheVariants as picks
 use Rattle.aft_model.specs.declared.node.NodeAct.TheVariants as turns
 use Rattle.aft_model.specs.declared.reply.Reply.{Reply}
 use Rattle.aft_model.specs.declared.reply.Reply.TheVariants as replies
-use Rattle.aft_model.specs.declared.script.Command.{Command}
 use Rattle.aft_model.specs.declared.script.Command.TheVariants as commands
-use Rattle.aft_model.specs.declared.script.Step.{Step}
 use Rattle.aft_histories.specs.Entries.{u, x, y}
 use Rattle.aft_runs.specs.Entries.{finds, turn, answering}
 use Rattle.aft_runs.specs.Lines.{opening, opens, boots, attempt, caller_of, begins, puts, commits, only_answers}

@@ -1,5 +1,5 @@
 -- A run with threads: its background lines stand between those of a client; and that run where what a background line does is left open.
-use Rattle.std.specs.Prelude.{ℕ, List, [], ◌∷◌, ◌++◌, codes, map, None}
+use Rattle.std.specs.Prelude.{ℕ, List, [], ◌∷◌, ◌++◌, codes}
 use Rattle.aft_records.specs.declared.stored.Commit.{Commit}
 use Rattle.aft_model.specs.Asked.{Settings}
 use Rattle.aft_model.specs.Membership.{the_office}

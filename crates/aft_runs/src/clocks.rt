@@ -6,7 +6,7 @@ ghost use Rattle.aft_model.specs.Honest.{Honest};
 ghost use Rattle.aft_model.specs.LegalTrace.{LegalTrace};
 ghost use Rattle.aft_model.specs.declared.reply.Reply.TheVariants as replies;
 ghost use Rattle.aft_runs.specs.Clocks.{commits_where, last_time, earliest, latest, untold, past_end};
-ghost use Rattle.aft_runs.specs.LeftOut.{AnswersAll, answers_all};
+ghost use Rattle.aft_runs.specs.LeftOut.{AnswersAll};
 ghost use Rattle.aft_runs.specs.Parts.{RefusedBy, Door, Nodes, Clock, Courses, Causes};
 
 /// A commit has a time from 1 to the last one, by what the clock tells.
@@ -44,4 +44,5 @@ pub fn clocks_refused()
     ensures below { RefusedBy (Nodes ∷ []) (commits_where None 6 5) }
     ensures other { RefusedBy (Clock ∷ []) (commits_where (Some 6) 5 5) }
     ensures last { RefusedBy [] (commits_where (Some last_time) last_time last_time) }
+    ensures past_last { RefusedBy (Door ∷ Nodes ∷ Courses ∷ Causes ∷ []) (commits_where (Some (2 ^ 48)) (2 ^ 48) (2 ^ 48)) }
 {}
