@@ -30,3 +30,4 @@ pub mod Retries
 pub mod Incarnations
 pub mod LostMail
 pub mod Clocks
+pub mod CollectionFaults

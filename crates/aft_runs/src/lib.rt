@@ -3,6 +3,7 @@
 #![tactic(auto)]
 
 mod aborts;
+mod collection_faults;
 mod asks;
 mod background;
 mod begins;
@@ -29,6 +30,7 @@ mod shared;
 mod threads;
 
 pub use aborts::{aborts_refused, doubts_aborted, doubts_refused, running_aborted};
+pub use collection_faults::{collected_in_the_end, collection_faults_refused};
 pub use asks::{endings_refused, lines_refused, orders_refused, places_refused, settings_refused};
 pub use background::{pinned, told};
 pub use begins::begins_refused;
