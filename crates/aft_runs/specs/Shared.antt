@@ -7,7 +7,7 @@ use Rattle.aft_model.specs.declared.reply.Reply.TheVariants as replies
 use Rattle.aft_model.specs.declared.script.Command.TheVariants as commands
 use Rattle.aft_histories.specs.Entries.{u, x, y}
 use Rattle.aft_runs.specs.Entries.{finds, turn, answering}
-use Rattle.aft_runs.specs.Lines.{opening, opens, boots, attempt, caller_of, begins, puts, commits, only_answers}
+use Rattle.aft_runs.specs.Lines.{opening, opens, boots, attempt, caller_of, begins, puts, commits, doubts, settles, only_answers}
 use Rattle.aft_runs.specs.Reads.{x_hi}
 use Rattle.aft_runs.specs.Words.{Writes, write, writes, hi, a, commit_of, version_pair}
 use Rattle.aft_runs.specs.Works.{Work, Run, run, ordered, whole, step, by, at, nodes, nothing, asks}
@@ -69,3 +69,21 @@ shares beside place later = ordered (whole 1 ∷ whole 1 ∷ whole 1 ∷ whole 1
 -- the second client's commit finds the get that isn't over, and its get finds the first client's commit
 abbrev pub shared_attempt : Run
 shared_attempt = shares (commit_answers (replies.OpenReads 1)) 14 (begins_commit ∷ only_answers 15 (by 2 10) 1 (commands.Get x) replies.Committing ∷ ends_commit ∷ [])
+
+-- ---- a commit in doubt
+
+-- it isn't known whether a transaction's record is stored; another client's begin answers this, and then its commit settles it
+abbrev pub settled_by_other : Reply → Run
+settled_by_other reply = run (nodes 1) (
+    opens
+    ∷ boots 3 opening 1 1 []
+    ∷ begins 5 (by 1 1) (attempt 1 1 1) 1
+    ∷ puts 8 (by 1 2) (attempt 1 1 1) (write x hi)
+    ∷ doubts 8 (by 1 3) (attempt 1 1 1) x_hi
+    ∷ only_answers 11 (by 2 4) 1 (commands.Begin (u 1) 1) reply
+    ∷ settles 11 (by 2 5) (attempt 1 1 1) x_hi
+    ∷ only_answers 13 (by 1 6) 1 commands.Commit replies.NoTransaction ∷ [])
+
+-- it joins the transaction
+abbrev pub shared_doubt : Run
+shared_doubt = settled_by_other (replies.Joined (u 1))

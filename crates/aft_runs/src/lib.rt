@@ -39,7 +39,7 @@ pub use boots::{boots_refused, crashes_refused};
 pub use clocks::{clocks_refused, times_at_edges, times_beyond};
 pub use collections::{drops_refused, give_ups_refused, verdicts_refused};
 pub use commits::{answers_refused, times_refused};
-pub use crashes::{crash_between_puts, puts_behind_crash_refused};
+pub use crashes::{crash_between_puts, crash_in_get, puts_behind_crash_refused};
 pub use deliveries::{boxes_refused, rounds_refused};
 pub use failing::faults;
 pub use full_boxes::{box_full, full_boxes_refused};
