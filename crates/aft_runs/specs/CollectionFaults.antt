@@ -15,7 +15,7 @@ use Rattle.aft_runs.specs.Lines.{opening, opens, boots}
 use Rattle.aft_runs.specs.Pinned.{older, newer}
 use Rattle.aft_runs.specs.Rounds.{gives_up, collected, retired}
 use Rattle.aft_runs.specs.Words.{commit_of}
-use Rattle.aft_runs.specs.Works.{Work, Run, run, ordered, whole, step, by, nodes, nothing, asks}
+use Rattle.aft_runs.specs.Works.{Work, Run, run, ordered, whole, step, by, nodes, asks}
 
 -- ---- another collection
 

@@ -1,4 +1,4 @@
--- A run in which two clients share an attempt, and their lines run turn by turn; and that run where what the second does beside a get is left open.
+-- Runs in which two clients share an attempt, while their lines run turn by turn or its commit is in doubt; and such runs in which what the second client does is left open.
 use Rattle.std.specs.Prelude.{ℕ, ◌+◌, true, List, [], ◌∷◌, ◌++◌}
 use Rattle.aft_model.specs.declared.choice.Picked.TheVariants as picks
 use Rattle.aft_model.specs.declared.node.NodeAct.TheVariants as turns

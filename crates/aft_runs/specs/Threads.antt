@@ -41,9 +41,9 @@ says_announced = answering 13 (by 0 1) turns.Nothing (replies.Announced 1 0 0) �
 abbrev pub takes_nothing : Work
 takes_nothing = unasked (learns 8 (by 0 2) 1 [])
 
--- it drops nothing, for a line of this number, having seen less of the door's history than there is
-abbrev pub drops_nothing : ℕ → Work
-drops_nothing line = unasked (drops 16 (by 0 line) 1 [])
+-- it drops nothing, having seen so much of the door's history, for a line of this number
+abbrev pub drops_nothing : ℕ → ℕ → Work
+drops_nothing front line = unasked (drops front (by 0 line) 1 [])
 
 -- the manager hears of the commit, and misses none
 abbrev pub hears_of_it : Work
@@ -59,9 +59,9 @@ collects_nothing = unasked (collects 8 (by 0 5) []) ∷ collected 10 (by 0 5) []
 
 -- ---- the run
 
--- a transaction writes x, and another reads it; the background's announcement ends so, and this is done besides
-abbrev pub runs_beside : List NodeEntry → List Work → Run
-runs_beside ending besides = threaded (run one_round (
+-- a transaction writes x, and another reads it; the background's announcement ends so, its local round has seen so much of the door's history, and this is done besides
+abbrev pub runs_beside : List NodeEntry → ℕ → List Work → Run
+runs_beside ending front besides = threaded (run one_round (
     opens
     ∷ boots 3 opening 1 1 []
     ∷ begins 5 (by 1 1) (attempt 1 1 1) 1
@@ -71,9 +71,9 @@ runs_beside ending besides = threaded (run one_round (
     ∷ announces_it ending
     ∷ begins 13 (by 1 4) (attempt 1 1 2) 2
     ∷ hears_of_it
-    ∷ drops_nothing 3
+    ∷ drops_nothing front 3
     ∷ besides ++ fetches 17 (by 1 5) (attempt 1 1 2) x_hi.id (write x hi) ∷ []))
 
 -- the put of x and the local round have seen less of the door's history than there was
 abbrev pub with_threads : Run
-with_threads = runs_beside says_announced []
+with_threads = runs_beside says_announced 16 []

@@ -3,13 +3,13 @@
 #![tactic(auto)]
 
 mod aborts;
-mod collection_faults;
 mod asks;
 mod background;
 mod begins;
 mod boot_faults;
 mod boots;
 mod clocks;
+mod collection_faults;
 mod collections;
 mod commits;
 mod crashes;
@@ -30,13 +30,13 @@ mod shared;
 mod threads;
 
 pub use aborts::{aborts_refused, doubts_aborted, doubts_refused, running_aborted};
-pub use collection_faults::{collected_in_the_end, collection_faults_refused};
 pub use asks::{endings_refused, lines_refused, orders_refused, places_refused, settings_refused};
 pub use background::{pinned, told};
 pub use begins::begins_refused;
 pub use boot_faults::{boot_faults_refused, boot_tried_again};
 pub use boots::{boots_refused, crashes_refused};
 pub use clocks::{clocks_refused, times_at_edges, times_beyond};
+pub use collection_faults::{collected_in_the_end, collection_faults_refused};
 pub use collections::{drops_refused, give_ups_refused, verdicts_refused};
 pub use commits::{answers_refused, times_refused};
 pub use crashes::{crash_between_puts, crash_in_get, puts_behind_crash_refused};
@@ -54,4 +54,4 @@ pub use reading::{reads, reads_beside};
 pub use replies::{refusals_refused, states_refused, words_alone_refused};
 pub use retries::{retries_refused, tried_again};
 pub use shared::{attempt_shared, sharing_refused};
-pub use threads::{runs_with_threads, threads_refused};
+pub use threads::{fronts_refused, runs_with_threads, threads_refused};

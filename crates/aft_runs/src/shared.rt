@@ -1,4 +1,4 @@
-//! A run in which two clients share an attempt, and others, which are refused.
+//! Runs in which two clients share an attempt, and others, which are refused.
 
 ghost use Rattle.std.specs.Prelude.{[], ◌∷◌};
 ghost use Rattle.aft_model.specs.Headline.{Headline};
