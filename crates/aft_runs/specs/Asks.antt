@@ -1,5 +1,5 @@
 -- Runs in which how they fit what was asked is left open: as the rules say they are legal, and otherwise they are refused.
-use Rattle.std.specs.Prelude.{ℕ, false, true, List, [], ◌∷◌, Some}
+use Rattle.std.specs.Prelude.{ℕ, List, [], ◌∷◌}
 use Rattle.aft_model.specs.Membership.{incarnation}
 use Rattle.aft_model.specs.declared.caller.Attempt.{Attempt}
 use Rattle.aft_model.specs.declared.door.DoorEntry.{DoorEntry}
@@ -14,15 +14,11 @@ use Rattle.aft_runs.specs.Entries.{misses, turn, answering}
 use Rattle.aft_runs.specs.Lines.{opening, opens, boots, attempt, begins, puts, gets_absent}
 use Rattle.aft_runs.specs.Rounds.{drops}
 use Rattle.aft_runs.specs.Words.{write, hi}
-use Rattle.aft_runs.specs.Works.{Work, Run, run, asked, ran, by, at, nodes, nothing, asks}
-
--- a run whose words are these
-abbrev pub ordered : List Step → Run → Run
-ordered words told = record told { asked = record told.asked { order = Some (record { words = words }) } }
+use Rattle.aft_runs.specs.Works.{Work, Run, run, ordered, step, asked, ran, by, at, nodes, nothing, asks}
 
 -- the same run, where lines run turn by turn
 abbrev pub in_turns : Run → Run
-in_turns told = ordered (record { client = 1; whole = false } ∷ []) told
+in_turns told = ordered (step 1 ∷ []) told
 
 -- a transaction begins, and then this is done
 abbrev pub begins_then : List Work → Run
@@ -107,10 +103,6 @@ runs_within client = in_turns (run (nodes 1) (
 -- client 1 begins, and then client 2, where the words of the order are these
 abbrev pub begins_by : List Step → Run
 begins_by words = ordered words (begins_then (begins 8 (by 2 2) (attempt 1 1 2) 2 ∷ []))
-
--- a word that runs a line of a client whole
-abbrev pub whole : ℕ → Step
-whole client = record { client = client; whole = true }
 
 -- ---- settings
 

@@ -1,5 +1,5 @@
 -- Replies that a run may have left out, and runs that leave one out.
-use Rattle.std.specs.Prelude.{ℕ, Bool, List, [], ◌∷◌, ◌++◌, codes, map, IsTrue, IsFalse}
+use Rattle.std.specs.Prelude.{ℕ, ◌-◌, ◌^◌, Bool, List, [], ◌∷◌, ◌++◌, codes, map, IsTrue, IsFalse}
 use Rattle.std.specs.List.{list_all, flat_map}
 use Rattle.aft_id.specs.declared.txn_id.TxnId.{TxnId}
 use Rattle.aft_keeper.specs.declared.keeper.KeeperCall.TheVariants as calls
@@ -19,11 +19,11 @@ use Rattle.aft_histories.specs.Entries.{x}
 
 -- the ids of the small runs
 abbrev pub ids : List TxnId
-ids = id_of 1000 1 ∷ id_of 1000 2 ∷ id_of 1000 3 ∷ id_of 1001 1 ∷ id_of 1001 3 ∷ []
+ids = id_of 1000 1 ∷ id_of 1000 2 ∷ id_of 1000 3 ∷ id_of 1001 1 ∷ id_of 1001 2 ∷ id_of 1001 3 ∷ []
 
 -- their values
 abbrev pub values : List (List ℕ)
-values = hi ∷ a ∷ b ∷ codes "old" ∷ []
+values = hi ∷ a ∷ b ∷ codes "old" ∷ codes "9" ∷ []
 
 -- replies without parameters
 abbrev pub plain : List Reply
@@ -35,7 +35,7 @@ plain =
 abbrev pub named : List Reply
 named =
     map (λ n. replies.Begun (u n)) (1 ∷ 2 ∷ 3 ∷ 9 ∷ []) ++ map (λ n. replies.Joined (u n)) (1 ∷ 2 ∷ 3 ∷ 9 ∷ [])
-    ++ map replies.Committed ids ++ map replies.Missing ids ++ map replies.Own values
+    ++ map replies.Committed (id_of 1 1 ∷ id_of (2 ^ 48 - 1) 1 ∷ ids) ++ map replies.Missing ids ++ map replies.Own values
     ++ flat_map (λ id. map (replies.Value id) values) ids ++ replies.NoValidVersion (x_was_absent both ∷ []) ∷ replies.NoValidVersion [] ∷ []
 
 -- replies that name an incarnation
@@ -43,14 +43,15 @@ abbrev pub of_nodes : List Reply
 of_nodes =
     flat_map (λ node. replies.NotUp node ∷ flat_map (λ inc.
     replies.Busy node inc ∷ replies.NodeDown node inc ∷ replies.Crashed node inc ∷ replies.Started node inc ∷ replies.IsUp node inc
-    ∷ replies.IsBooting node inc ∷ []) (1 ∷ 2 ∷ [])) (1 ∷ 2 ∷ [])
+    ∷ replies.IsBooting node inc ∷ []) (1 ∷ 2 ∷ 3 ∷ [])) (1 ∷ 2 ∷ [])
 
 -- replies that count
 abbrev pub counts : List Reply
 counts =
     flat_map (λ n. replies.OpenReads n ∷ replies.Dropped n ∷ flat_map (λ m.
     replies.Announced n m 0 ∷ replies.Learned n m 0 ∷ replies.Learned n 0 m ∷ replies.Managed n m ∷ []) (0 ∷ 1 ∷ [])) (0 ∷ 1 ∷ [])
-    ++ replies.Collected [] ∷ replies.Collected (record { id = id_of 1000 1; verdict = verdicts.Retired } ∷ [])
+    ++ replies.Announced 2 0 0 ∷ replies.Announced 2 0 1 ∷ replies.Announced 1 0 1 ∷ replies.Learned 2 0 0 ∷ replies.Managed 1 2 ∷ replies.Managed 0 2 ∷ replies.Managed 2 0 ∷ replies.Dropped 2
+    ∷ replies.Collected [] ∷ replies.Collected (record { id = id_of 1000 1; verdict = verdicts.Retired } ∷ [])
     ∷ replies.Collected (record { id = id_of 1000 1; verdict = verdicts.Held 1 1 } ∷ []) ∷ replies.Collected (record { id = id_of 1000 1; verdict = verdicts.Fault } ∷ []) ∷ []
 
 -- whether a run leaves out none of these replies where it should have answered it

@@ -20,3 +20,15 @@ pub mod Promises
 pub mod Unkept
 pub mod LeftOut
 pub mod Openings
+pub mod Aborts
+pub mod HeldClaims
+pub mod BootFaults
+pub mod FullBoxes
+pub mod Shared
+pub mod Crashes
+pub mod Threads
+pub mod Retries
+pub mod Incarnations
+pub mod LostMail
+pub mod Clocks
+pub mod CollectionFaults

@@ -11,7 +11,9 @@ use Rattle.aft_model.specs.declared.choice.Picked.TheVariants as picks
 use Rattle.aft_model.specs.declared.door.DoorAct.TheVariants as acts
 use Rattle.aft_model.specs.declared.door.DoorEntry.{DoorEntry}
 use Rattle.aft_model.specs.declared.node.NodeAct.TheVariants as turns
+use Rattle.aft_model.specs.declared.reply.Reply.{Reply}
 use Rattle.aft_model.specs.declared.reply.Reply.TheVariants as replies
+use Rattle.aft_model.specs.declared.script.Command.{Command}
 use Rattle.aft_model.specs.declared.script.Command.TheVariants as commands
 use Rattle.aft_histories.specs.Entries.{u, record_of, marker_of, record_pair}
 use Rattle.aft_runs.specs.Words.{Write, Writes, commit_of, version_pair, version_pairs}
@@ -122,6 +124,19 @@ leaves front who own n = record (asks who commands.Commit) {
   door = releases who own (u n) ∷ [];
   nodes = at own.node (turn front who (turns.Leave own) ∷ answering (front + 1) who (turns.End own) replies.Ended ∷ []);
 }
+
+-- it is aborted
+abbrev pub aborts : ℕ → By → Attempt → ℕ → Work
+aborts front who own n = record (asks who commands.Abort) {
+  door = releases who own (u n) ∷ [];
+  nodes = at own.node (turn front who (turns.Leave own) ∷ answering (front + 1) who (turns.End own) replies.Aborted ∷ []);
+}
+
+-- ---- any line
+
+-- a line does nothing at a node, and answers this
+abbrev pub only_answers : ℕ → By → ℕ → Command → Reply → Work
+only_answers front who node command reply = record (asks who command) { nodes = at node (answering front who turns.Nothing reply ∷ []) }
 
 -- ---- crashes
 

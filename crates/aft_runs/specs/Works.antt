@@ -1,5 +1,5 @@
 -- A run as the list of what is done in it: each piece of work is a line of the script with all that it adds to the histories.
-use Rattle.std.specs.Prelude.{ℕ, ◌==◌, ◌+◌, List, [], ◌∷◌, map, Some, if◌then◌else◌}
+use Rattle.std.specs.Prelude.{ℕ, ◌==◌, ◌+◌, true, false, List, [], ◌∷◌, map, Some, None, if◌then◌else◌}
 use Rattle.std.specs.List.{flat_map, range_with_len}
 use Rattle.aft_model.specs.Asked.{Asked, Ran, Settings}
 use Rattle.aft_model.specs.declared.caller.By.{By}
@@ -9,6 +9,7 @@ use Rattle.aft_model.specs.declared.node.NodeEntry.{NodeEntry}
 use Rattle.aft_model.specs.declared.office.OfficeEntry.{OfficeEntry}
 use Rattle.aft_model.specs.declared.script.Command.{Command}
 use Rattle.aft_model.specs.declared.script.Line.{Line}
+use Rattle.aft_model.specs.declared.script.Step.{Step}
 
 -- a piece of work: its line, if it is the first of its line, and what it adds to the history of the door, of each node, of the office and of each box
 pub record Work : Type 0 where
@@ -66,3 +67,20 @@ ran settings works = record {
 -- the run of these works
 abbrev pub run : Settings → List Work → Run
 run settings works = record { asked = asked settings works; ran = ran settings works }
+
+-- ---- in which order lines run
+
+-- a word that runs a line of a client whole, and one that runs it by one turn
+abbrev pub whole : ℕ → Step
+whole client = record { client = client; whole = true }
+
+abbrev pub step : ℕ → Step
+step client = record { client = client; whole = false }
+
+-- a run whose words are these
+abbrev pub ordered : List Step → Run → Run
+ordered words told = record told { asked = record told.asked { order = Some (record { words = words }) } }
+
+-- a run with threads, which has no order
+abbrev pub threaded : Run → Run
+threaded told = record told { asked = record told.asked { order = None } }

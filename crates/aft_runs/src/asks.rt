@@ -2,10 +2,11 @@
 
 ghost use Rattle.std.specs.Prelude.{[], ◌∷◌};
 ghost use Rattle.aft_histories.specs.Entries.{x, y};
-ghost use Rattle.aft_runs.specs.Asks.{puts_by, puts_it, answers_again, asks_store, answers_for, line_nine, puts_value, gets_key, begins_for, rounds_for, puts_for, gets_for, puts_at, runs_within, begins_by, whole, histories_of};
+ghost use Rattle.aft_runs.specs.Asks.{puts_by, puts_it, answers_again, asks_store, answers_for, line_nine, puts_value, gets_key, begins_for, rounds_for, puts_for, gets_for, puts_at, runs_within, begins_by, histories_of};
 ghost use Rattle.aft_runs.specs.Lines.{attempt};
 ghost use Rattle.aft_runs.specs.Parts.{RefusedBy, Settings, Nodes, Opening, Courses, Answers, Words, Places, Attempts, Clients, WholeLines, Causes};
 ghost use Rattle.aft_runs.specs.Words.{hi, a};
+ghost use Rattle.aft_runs.specs.Works.{whole};
 
 /// A line answers once, and is over then.
 #[tactic(auto, unfolding(aft_histories::proofs::Stored::stored_forms))]
