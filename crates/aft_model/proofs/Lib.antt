@@ -15,3 +15,4 @@ pub mod Knowledge
 pub mod Incarnations
 pub mod Pins
 pub mod Newest
+pub mod Exactness

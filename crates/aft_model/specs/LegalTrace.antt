@@ -19,6 +19,8 @@ use Rattle.aft_model.specs.declared.trace.Trace.{Trace}
 use Rattle.aft_model.specs.Asked.{Asked, Ran, Settings}
 use Rattle.aft_model.specs.Attempts.{same_attempt}
 use Rattle.aft_model.specs.Boxes.{is_legal_box}
+use Rattle.aft_model.specs.CausesAttempts.{speaks_of_attempt}
+use Rattle.aft_model.specs.CollectCourse.{is_give_up}
 use Rattle.aft_model.specs.FinishedText.{line_of, answers_of}
 use Rattle.aft_model.specs.History.{each_after}
 use Rattle.aft_model.specs.LegalDoor.{Legal}
@@ -31,7 +33,6 @@ use Rattle.aft_model.specs.NodeState.{node_state, serves}
 use Rattle.aft_model.specs.Office.{is_legal_office}
 use Rattle.aft_model.specs.Opening.{opening}
 use Rattle.aft_model.specs.OpeningCourse.{opening_course}
-use Rattle.aft_model.specs.Readings.{same_id}
 use Rattle.aft_model.specs.ScanRun.{same_line}
 use Rattle.aft_model.specs.Turns.{Turn, AtDoor, AtNode, AtOffice, turns}
 use Rattle.aft_model.specs.Views.{have_causes}
@@ -117,14 +118,6 @@ stands_at named (AtOffice before entry) = true
 abbrev pub stand_at_nodes : Asked → Ran → Bool
 stand_at_nodes asked ran = each_line (λ line line_turns. list_all (stands_at (named_node line.order (hold_before (lines asked) ran.trace line))) line_turns) asked ran
 
--- whether a command speaks of the attempt that its client holds
-abbrev pub uses_hold : Command → Bool
-uses_hold (commands.Put key value) = true
-uses_hold (commands.Get key) = true
-uses_hold commands.Commit = true
-uses_hold commands.Abort = true
-uses_hold command = false
-
 -- whether an attempt is the one that a client holds
 abbrev pub is_held_attempt : Option Attempt → Attempt → Bool
 is_held_attempt None a = false
@@ -151,7 +144,7 @@ turn_of held (AtOffice before entry) = true
 
 -- whether each put, get, commit and abort speaks of the attempt that its client's last begin gave
 abbrev pub speak_of_held : Asked → Ran → Bool
-speak_of_held asked ran = each_line (λ line line_turns. not (uses_hold line.order) || list_all (turn_of (hold_before (lines asked) ran.trace line).attempt) line_turns) asked ran
+speak_of_held asked ran = each_line (λ line line_turns. not (speaks_of_attempt line.order) || list_all (turn_of (hold_before (lines asked) ran.trace line).attempt) line_turns) asked ran
 
 -- ---- clock
 
@@ -215,14 +208,9 @@ ran_as_ordered ran (Some order) = ran_whole ran order
 
 -- ---- give-ups
 
--- whether an act gives this id up
-abbrev pub gives_id_up : TxnId → NodeAct → Bool
-gives_id_up id (node_acts.GiveUp given) = same_id id given
-gives_id_up id act = false
-
 -- whether an entry of a node, after its history, is this line's give-up of this id by this incarnation, with a front of at most this place
 abbrev pub backs_give_up : By → ℕ → TxnId → ℕ → List NodeEntry → NodeEntry → Bool
-backs_give_up by inc id place before entry = same_line by entry.by && gives_id_up id entry.act && serves inc (node_state before) && nat_le entry.front place
+backs_give_up by inc id place before entry = same_line by entry.by && is_give_up id entry.act && serves inc (node_state before) && nat_le entry.front place
 
 -- whether some entry of a history passes a test of it and of what stands before it
 abbrev pub some_after : (List NodeEntry → NodeEntry → Bool) → List NodeEntry → List NodeEntry → Bool

@@ -1,5 +1,5 @@
 -- What the entries of a node's history ask of the door's history, and of what their line was shown there. Each looks at the part that its front has seen.
-use Rattle.std.specs.Prelude.{ℕ, nat_le, ◌&&◌, Bool, true, false, List, [], ◌∷◌, length, take, drop, filter, Option, Some, None, IsTrue, if◌then◌else◌}
+use Rattle.std.specs.Prelude.{ℕ, nat_le, ◌&&◌, Bool, true, false, List, [], ◌∷◌, length, take, drop, filter, Option, Some, None, if◌then◌else◌}
 use Rattle.std.specs.Cmp.Lexicographic.{pointwise}
 use Rattle.std.specs.List.{list_any, list_all, flat_map}
 use Rattle.std.specs.Str.{bytes_eq}
@@ -27,8 +27,8 @@ use Rattle.aft_model.specs.Known.{known}
 use Rattle.aft_model.specs.Membership.{Incarnation, incarnation, same_incarnation}
 use Rattle.aft_model.specs.NodeState.{part}
 use Rattle.aft_model.specs.Readings.{same_id, same_commit, record_name, marker_name, versions_in}
-use Rattle.aft_model.specs.ScanRun.{ScanPage, same_line, scan_pages, is_scan_run}
-use Rattle.aft_model.specs.Sound.{records_prefix, recorded}
+use Rattle.aft_model.specs.ScanRun.{ScanPage, same_line, scan_pages, is_scan_run, commits_on}
+use Rattle.aft_model.specs.Sound.{records_prefix}
 
 -- the entries that a line made
 abbrev pub own_entries : By → List DoorEntry → List DoorEntry
@@ -41,10 +41,6 @@ first_of (x ∷ xs) = Some x
 
 abbrev pub at_place : {A : Type 0} → ℕ → List A → Option A
 at_place place xs = first_of (drop place xs)
-
--- the commits that pages show
-abbrev pub commits_on : List ScanPage → List Commit
-commits_on pages = recorded (flat_map (λ page. page.listed) pages)
 
 -- whether an act is the coming up, or the fence, of this incarnation
 abbrev pub comes_up : Incarnation → DoorAct → Bool
@@ -129,7 +125,3 @@ may_come_at node door before entry = nat_le entry.front (length door) && has_see
 -- whether each entry of a node's history has seen at the door what it asks
 abbrev pub is_seen_node : ℕ → List DoorEntry → List NodeEntry → Bool
 is_seen_node node door history = each_after (may_come_at node door) [] history
-
--- a history of a node that has seen at the door what it asks
-abbrev pub SeenNode : ℕ → List DoorEntry → List NodeEntry → Type 0
-SeenNode node door history = IsTrue (is_seen_node node door history)

@@ -17,8 +17,8 @@ use Rattle.aft_model.specs.History.{each_after}
 use Rattle.aft_model.specs.Membership.{the_office}
 use Rattle.aft_model.specs.Readings.{same_id, same_commit}
 use Rattle.aft_model.specs.Replies.{is_answer, is_silent}
-use Rattle.aft_model.specs.ScanRun.{ScanPage, same_line, scan_pages, is_scan_run}
-use Rattle.aft_model.specs.Sound.{records_prefix, recorded}
+use Rattle.aft_model.specs.ScanRun.{ScanPage, same_line, scan_pages, is_scan_run, commits_on}
+use Rattle.aft_model.specs.Sound.{records_prefix}
 
 -- the ids of commits
 abbrev pub ids_of : List Commit → List TxnId
@@ -126,10 +126,6 @@ is_legal_alone office = each_after may_be_next [] office
 abbrev pub records_run : By → List DoorEntry → List ScanPage
 records_run by door = scan_pages the_office by records_prefix door
 
--- the commits of a run, in the order in which it shows them, which is that of their UUIDs
-abbrev pub commits_of : List ScanPage → List Commit
-commits_of run = recorded (flat_map (λ page. page.listed) run)
-
 -- those commits of which nobody has heard
 abbrev pub unheard : List TxnId → List Commit → List Commit
 unheard known commits = filter (λ c. not (list_any (same_id c.id) known)) commits
@@ -139,7 +135,7 @@ abbrev pub is_backed : List DoorEntry → List TxnId → By → OfficeAct → Bo
 is_backed seen known by (Round heard missed) =
     list_all (λ c. is_among c (committed seen)) heard
     && is_scan_run (records_run by seen)
-    && pointwise same_commit missed (unheard (known ++ ids_of heard) (commits_of (records_run by seen)))
+    && pointwise same_commit missed (unheard (known ++ ids_of heard) (commits_on (records_run by seen)))
 is_backed seen known by act = true
 
 -- whether an entry may come after a history beside the door's, of which its turn had seen as much as its front says

@@ -6,11 +6,13 @@ use Rattle.std.specs.Str.{bytes_eq}
 use Rattle.aft_keeper.specs.declared.keeper.Pair.{Pair}
 use Rattle.aft_keeper.specs.declared.keeper.KeeperCall.TheVariants.{Scan}
 use Rattle.aft_keeper.specs.declared.keeper.KeeperAnswer.TheVariants.{Page}
+use Rattle.aft_records.specs.declared.stored.Commit.{Commit}
 use Rattle.aft_model.specs.declared.caller.By.{By}
 use Rattle.aft_model.specs.declared.door.DoorAct.{DoorAct}
 use Rattle.aft_model.specs.declared.door.DoorAct.TheVariants.{Call}
 use Rattle.aft_model.specs.declared.door.DoorEntry.{DoorEntry}
 use Rattle.aft_model.specs.Membership.{Incarnation, same_incarnation, incarnation}
+use Rattle.aft_model.specs.Sound.{recorded}
 
 -- the most pairs that a page of a run lists
 abbrev pub page_limit : ℕ
@@ -55,3 +57,7 @@ ends (Some after) (page ∷ pages) = bytes_eq page.after after && ends (next_aft
 -- whether pages are a whole scan run
 abbrev pub is_scan_run : List ScanPage → Bool
 is_scan_run pages = ends (Some []) pages
+
+-- the commits whose records pages show, in the order in which they show them
+abbrev pub commits_on : List ScanPage → List Commit
+commits_on pages = recorded (flat_map (λ page. page.listed) pages)

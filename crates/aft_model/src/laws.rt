@@ -1,10 +1,18 @@
 //! Laws of this crate's definitions, as calls that do nothing and promise them.
 
 ghost use Rattle.std.specs.Prelude.{◌≡◌, ◌++◌, ℕ, List, [], ◌∷◌, IsTrue, IsFalse};
+ghost use Rattle.std.specs.List.{Contains};
 ghost use Rattle.aft_id.specs.declared.txn_id.TxnId.{TxnId};
 ghost use Rattle.aft_records.specs.declared.stored.Commit.{Commit};
 ghost use Rattle.aft_model.specs.declared.door.DoorEntry.{DoorEntry};
 ghost use Rattle.aft_records.specs.Superseded.{Superseded};
+ghost use Rattle.aft_model.specs.Asked.{Asked, Ran};
+ghost use Rattle.aft_model.specs.Causes.{ExactlyCaused};
+ghost use Rattle.aft_model.specs.FinishedText.{answers_of, line_of};
+ghost use Rattle.aft_model.specs.Lines.{lines};
+ghost use Rattle.aft_model.specs.Views.{LeavesOutNothing, view_of};
+ghost use Rattle.aft_model.specs.declared.reply.Reply.{Reply};
+ghost use Rattle.aft_model.specs.declared.script.Line.{Line};
 ghost use Rattle.aft_model.specs.Committed.{Committed, Marked, committed};
 ghost use Rattle.aft_model.specs.DoorKnowledge.{is_open, knows_unused, knows_stored, knows_superseded, knows_marked, knows_record_gone, knows_versions_gone};
 ghost use Rattle.aft_model.specs.Membership.{Incarnation};
@@ -41,4 +49,9 @@ pub fn honest_everywhere()
 pub fn id_commits_once()
     ensures one_commit { (c d : Commit) (history : List DoorEntry) → Legal history → Honest history → KeepsCourse history → DeletesNothing history → Committed c history → Committed d history → c.id.uuid ≡ d.id.uuid → c ≡ d }
     ensures no_more_puts { (c : Commit) (who : Incarnation) (history : List DoorEntry) (entry : DoorEntry) → Legal (history ++ entry ∷ []) → Honest (history ++ entry ∷ []) → KeepsCourse (history ++ entry ∷ []) → DeletesNothing history → Committed c history → IsFalse (puts_record who c.id.uuid entry.act) }
+{}
+
+/// Where a run leaves out no reply that comes exactly where its cause is, each of its replies leaves out no other.
+pub fn replies_are_exact()
+    ensures { (asked : Asked) (ran : Ran) (line : Line) (reply : Reply) → LeavesOutNothing asked ran → Contains (lines asked) line → Contains (answers_of (line_of line) ran) reply → ExactlyCaused (view_of asked ran line) reply }
 {}

@@ -21,7 +21,9 @@ mod trace;
 pub use caller::{Attempt, By, Caller, Hold};
 pub use choice::{Blocked, Choice, Picked};
 pub use door::{DoorAct, DoorEntry};
-pub use laws::{facts_grow, honest_everywhere, id_commits_once, knowledge_stays};
+pub use laws::{
+    facts_grow, honest_everywhere, id_commits_once, knowledge_stays, replies_are_exact,
+};
 pub use mail::{MailAct, MailEntry};
 pub use node::{NodeAct, NodeEntry};
 pub use node_laws::{

@@ -1,12 +1,10 @@
 -- The entries of the histories, in short words.
-use Rattle.std.specs.Prelude.{ℕ, List, [], map, Some, None}
-use Rattle.aft_id.specs.declared.txn_id.TxnId.{TxnId}
+use Rattle.std.specs.Prelude.{ℕ, List, [], Some, None}
 use Rattle.aft_keeper.specs.declared.keeper.Pair.{Pair}
 use Rattle.aft_keeper.specs.declared.keeper.KeeperCall.{KeeperCall}
 use Rattle.aft_keeper.specs.declared.keeper.KeeperCall.TheVariants as calls
 use Rattle.aft_keeper.specs.declared.keeper.KeeperAnswer.{KeeperAnswer}
 use Rattle.aft_keeper.specs.declared.keeper.KeeperAnswer.TheVariants as answers
-use Rattle.aft_records.specs.declared.stored.Commit.{Commit}
 use Rattle.aft_model.specs.Membership.{Incarnation, the_office}
 use Rattle.aft_model.specs.declared.caller.By.{By}
 use Rattle.aft_model.specs.declared.door.DoorAct.{DoorAct}
@@ -62,7 +60,3 @@ says front who act = record { front = front; by = who; act = act; answer = None 
 
 abbrev pub closes : ℕ → By → OfficeAct → Reply → OfficeEntry
 closes front who act reply = record { front = front; by = who; act = act; answer = Some reply }
-
--- the ids of commits
-abbrev pub ids : List Commit → List TxnId
-ids commits = map (λ c. c.id) commits

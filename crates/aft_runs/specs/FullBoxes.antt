@@ -10,7 +10,8 @@ use Rattle.aft_model.specs.declared.office.OfficeAct.TheVariants as desk
 use Rattle.aft_model.specs.declared.reply.Reply.TheVariants as replies
 use Rattle.aft_model.specs.declared.script.Command.TheVariants as commands
 use Rattle.aft_histories.specs.Entries.{x, y, record_pair}
-use Rattle.aft_runs.specs.Entries.{lists, turn, answering, says, closes, ids}
+use Rattle.aft_model.specs.Office.{ids_of}
+use Rattle.aft_runs.specs.Entries.{lists, turn, answering, says, closes}
 use Rattle.aft_runs.specs.Lines.{opening, opens, boots, attempt, begins, puts, fetches, commits}
 use Rattle.aft_runs.specs.Rounds.{posts, takes, learns}
 use Rattle.aft_runs.specs.Words.{Writes, write, writes, a, b, commit_of}
@@ -35,7 +36,7 @@ c_y = commit_of of_y
 
 -- a post of both, of which the box takes so many
 abbrev pub posts_both : ℕ → MailEntry
-posts_both taken = record { by = by 1 7; act = letters.Post (ids (c_x ∷ c_y ∷ [])) taken }
+posts_both taken = record { by = by 1 7; act = letters.Post (ids_of (c_x ∷ c_y ∷ [])) taken }
 
 -- the first node announces both: the second node's box takes so many of them, these are posted to the office, and so many are said to be dropped
 abbrev pub announces_both : ℕ → List Commit → ℕ → Work
@@ -48,7 +49,7 @@ announces_both taken told dropped = record (asks (by 1 7) (commands.Announce 1))
 abbrev pub rounds_up : ℕ → ℕ → List Commit → List Commit → Work
 rounds_up front line heard missed = record (asks (by 1 line) commands.Manager) {
   door = lists (by 1 line) the_office (codes "c/") (map record_pair (c_x ∷ c_y ∷ [])) ∷ [];
-  office = says front (by 1 line) (desk.Round heard missed) ∷ closes front (by 1 line) (desk.Posted (ids missed)) (replies.Managed (length heard) (length missed)) ∷ [];
+  office = says front (by 1 line) (desk.Round heard missed) ∷ closes front (by 1 line) (desk.Posted (ids_of missed)) (replies.Managed (length heard) (length missed)) ∷ [];
   boxes = λ box. at 0 (takes (by 1 line) heard ∷ []) box ++ at 1 (posts (by 1 line) missed ∷ []) box ++ at 2 (posts (by 1 line) missed ∷ []) box;
 }
 
@@ -86,8 +87,8 @@ announced_both taken told dropped = commits_both (announces_both taken told drop
 -- a round of the manager, whose post of the missed one the second node's box refuses, and which notes these as posted
 abbrev pub refused_round : List Commit → Work
 refused_round noted = record (rounds_up 20 8 (c_x ∷ []) (c_y ∷ [])) {
-  office = says 20 (by 1 8) (desk.Round (c_x ∷ []) (c_y ∷ [])) ∷ closes 20 (by 1 8) (desk.Posted (ids noted)) (replies.Managed 1 1) ∷ [];
-  boxes = λ box. at 0 (takes (by 1 8) (c_x ∷ []) ∷ []) box ++ at 1 (posts (by 1 8) (c_y ∷ []) ∷ []) box ++ at 2 (record { by = by 1 8; act = letters.Post (ids (c_y ∷ [])) 0 } ∷ []) box;
+  office = says 20 (by 1 8) (desk.Round (c_x ∷ []) (c_y ∷ [])) ∷ closes 20 (by 1 8) (desk.Posted (ids_of noted)) (replies.Managed 1 1) ∷ [];
+  boxes = λ box. at 0 (takes (by 1 8) (c_x ∷ []) ∷ []) box ++ at 1 (posts (by 1 8) (c_y ∷ []) ∷ []) box ++ at 2 (record { by = by 1 8; act = letters.Post (ids_of (c_y ∷ [])) 0 } ∷ []) box;
 }
 
 -- the manager finds the commit missed while the second node's box is full, and notes these as posted; then this is done

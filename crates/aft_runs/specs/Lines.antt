@@ -3,6 +3,7 @@ use Rattle.std.specs.Prelude.{ℕ, ◌+◌, true, List, [], ◌∷◌, ◌++◌,
 use Rattle.aft_id.specs.declared.txn_id.TxnId.{TxnId}
 use Rattle.aft_keeper.specs.declared.keeper.KeeperCall.TheVariants as calls
 use Rattle.aft_records.specs.declared.stored.Commit.{Commit}
+use Rattle.aft_model.specs.Attempts.{Write}
 use Rattle.aft_model.specs.Membership.{Incarnation, incarnation, the_office}
 use Rattle.aft_model.specs.declared.caller.Attempt.{Attempt}
 use Rattle.aft_model.specs.declared.caller.By.{By}
@@ -16,7 +17,7 @@ use Rattle.aft_model.specs.declared.reply.Reply.TheVariants as replies
 use Rattle.aft_model.specs.declared.script.Command.{Command}
 use Rattle.aft_model.specs.declared.script.Command.TheVariants as commands
 use Rattle.aft_histories.specs.Entries.{u, record_of, marker_of, record_pair}
-use Rattle.aft_runs.specs.Words.{Write, Writes, commit_of, version_pair, version_pairs}
+use Rattle.aft_runs.specs.Words.{Writes, commit_of, version_pair, version_pairs}
 use Rattle.aft_runs.specs.Works.{Work, by, at, nothing, asks}
 use Rattle.aft_runs.specs.Entries.{does, stores, misses, finds, fails, lists, turn, answering}
 

@@ -15,16 +15,17 @@ use Rattle.aft_model.specs.declared.reply.Verdict.TheVariants as verdicts
 use Rattle.aft_model.specs.declared.script.Command.TheVariants as commands
 use Rattle.aft_histories.specs.Entries.{version_of, record_pair, full_pair, done_pair}
 use Rattle.aft_runs.specs.Works.{Work, at, nothing, asks}
-use Rattle.aft_runs.specs.Entries.{does, stores, deletes, lists, turn, answering, says, closes, ids}
+use Rattle.aft_model.specs.Office.{ids_of}
+use Rattle.aft_runs.specs.Entries.{does, stores, deletes, lists, turn, answering, says, closes}
 
 -- ---- announcements
 
 -- a post of commits, of which the box takes all, and the take of a box that has them
 abbrev pub posts : By → List Commit → MailEntry
-posts who told = record { by = who; act = letters.Post (ids told) (length told) }
+posts who told = record { by = who; act = letters.Post (ids_of told) (length told) }
 
 abbrev pub takes : By → List Commit → MailEntry
-takes who told = record { by = who; act = letters.Take (ids told) }
+takes who told = record { by = who; act = letters.Take (ids_of told) }
 
 -- a node announces the first commits to the others, and to the office besides the second ones, which are older and superseded
 abbrev pub announces : ℕ → By → ℕ → List Commit → List Commit → Work
@@ -44,7 +45,7 @@ learns front who node told = record (asks who (commands.Deliver node)) {
 abbrev pub tells : ℕ → By → List Commit → List Commit → Work
 tells front who shown missed = record (asks who commands.Manager) {
   door = lists who the_office (codes "c/") (map record_pair shown) ∷ [];
-  office = says (front + 1) who (desk.Round [] missed) ∷ closes (front + 1) who (desk.Posted (ids missed)) (replies.Managed 0 (length missed)) ∷ [];
+  office = says (front + 1) who (desk.Round [] missed) ∷ closes (front + 1) who (desk.Posted (ids_of missed)) (replies.Managed 0 (length missed)) ∷ [];
   boxes = λ box. if box == 0 then takes who [] ∷ [] else posts who missed ∷ [];
 }
 
@@ -53,7 +54,7 @@ tells front who shown missed = record (asks who commands.Manager) {
 -- a node drops these commits
 abbrev pub drops : ℕ → By → ℕ → List Commit → Work
 drops front who node dropped = record (asks who (commands.Local node)) {
-  nodes = at node (answering front who (turns.Drop (ids dropped)) (replies.Dropped (length dropped)) ∷ []);
+  nodes = at node (answering front who (turns.Drop (ids_of dropped)) (replies.Dropped (length dropped)) ∷ []);
 }
 
 -- a collection begins, and is shown these commits and no marker

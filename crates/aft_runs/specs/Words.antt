@@ -4,12 +4,8 @@ use Rattle.aft_id.specs.declared.txn_id.TxnId.{TxnId}
 use Rattle.aft_keeper.specs.declared.keeper.Pair.{Pair}
 use Rattle.aft_records.specs.declared.stored.Commit.{Commit}
 use Rattle.aft_records.specs.Rows.{version_row}
+use Rattle.aft_model.specs.Attempts.{Write}
 use Rattle.aft_histories.specs.Entries.{id_of, version_of}
-
--- a value that is written to a key
-pub record Write : Type 0 where
-  pub key : List ℕ
-  pub value : List ℕ
 
 -- what one transaction writes, in the order of keys, and the id that it commits under
 pub record Writes : Type 0 where

@@ -1,7 +1,7 @@
 //! The parts by which runs are refused are those of the definitions, all of them.
 
 ghost use Rattle.std.specs.Prelude.{[]};
-ghost use Rattle.aft_model.specs.Headline.{Headline};
+ghost use Rattle.aft_model.specs.Headline.{Headline, KeepsPromise};
 ghost use Rattle.aft_model.specs.Honest.{Honest};
 ghost use Rattle.aft_model.specs.LegalTrace.{LegalTrace};
 ghost use Rattle.aft_runs.specs.Parts.{RefusedBy};
@@ -17,5 +17,6 @@ pub fn every_part()
 /// A trace keeps the promise exactly where it breaks no part of it.
 pub fn every_promise()
     ensures kept { (told : Run) → Breaks [] told → Headline told.ran.trace }
+    ensures promised { (told : Run) → Breaks [] told → KeepsPromise told.ran.trace }
     ensures breaks_none { (told : Run) → Honest told.ran.trace.door → Headline told.ran.trace → Breaks [] told }
 {}

@@ -21,3 +21,6 @@ returns-clause-breaks_none c told honest kept = (
   none_fails (λ promise. keeps promise told.ran.trace) promises
       (kept.atomic_read_sets, (kept.recorded_before, (kept.own_writes_and_repeats, (kept.one_commit_an_id, (kept.whole_commits, (kept.nothing_found_deleted, (kept.blockers_named, tt))))))),
 )
+
+pub returns-clause-promised : goal.returns-clause-promised
+returns-clause-promised c told none honest = returns-clause-kept c told none
