@@ -1,10 +1,8 @@
 -- The causes of what a line answers by whether its node is up, boots or serves.
-use Rattle.std.specs.Prelude.{ℕ, ◌==◌, ◌&&◌, ◌||◌, Bool, true, false, not, List, take, drop, length, Option, Some, None}
+use Rattle.std.specs.Prelude.{ℕ, ◌==◌, ◌&&◌, ◌||◌, Bool, false, not, List, take, drop, length, Option, Some, None}
 use Rattle.std.specs.List.{list_any, list_all}
 use Rattle.aft_model.specs.declared.caller.Attempt.{Attempt}
 use Rattle.aft_model.specs.declared.caller.By.{By}
-use Rattle.aft_model.specs.declared.door.DoorAct.{DoorAct}
-use Rattle.aft_model.specs.declared.door.DoorAct.TheVariants.{Fence}
 use Rattle.aft_model.specs.declared.door.DoorEntry.{DoorEntry}
 use Rattle.aft_model.specs.declared.node.NodeAct.{NodeAct}
 use Rattle.aft_model.specs.declared.node.NodeAct.TheVariants as node_acts
@@ -12,8 +10,8 @@ use Rattle.aft_model.specs.declared.script.Command.{Command}
 use Rattle.aft_model.specs.declared.script.Command.TheVariants as commands
 use Rattle.aft_model.specs.CausesScans.{is_too_many_records_caused, damage}
 use Rattle.aft_model.specs.LineView.{LineView, NodeTurn, door_entries, some_prefix, node_turns, first_node_turn, before_turn, last_front, went_on, found_service, newest_here}
-use Rattle.aft_model.specs.Membership.{Incarnation, ups}
-use Rattle.aft_model.specs.NodeSights.{is_fence_of, is_fenced}
+use Rattle.aft_model.specs.Membership.{Incarnation, ups, fenced}
+use Rattle.aft_model.specs.NodeSights.{is_fenced}
 use Rattle.aft_model.specs.NodeState.{NodeState, IsBooting, in_service, node_state, serves, boots}
 use Rattle.aft_model.specs.ScanRun.{scan_pages, is_scan_run}
 use Rattle.aft_model.specs.Sound.{records_prefix}
@@ -73,12 +71,7 @@ crashes node command = false
 
 -- crashed: the line fenced this incarnation
 abbrev pub is_crashed_caused : Incarnation → LineView → Bool
-is_crashed_caused who view = crashes who.node view.command && list_any (λ entry. is_fence_of who entry.act) (door_entries view)
-
--- whether an act is a fence
-abbrev pub is_fence : DoorAct → Bool
-is_fence (Fence node inc) = true
-is_fence act = false
+is_crashed_caused who view = crashes who.node view.command && is_fenced who (door_entries view)
 
 -- whether no incarnation of a node is up
 abbrev pub is_none_up : ℕ → List DoorEntry → Bool
@@ -93,7 +86,7 @@ earliest (Some lines) view = last_front view
 abbrev pub is_not_up_caused : ℕ → LineView → Bool
 is_not_up_caused node view =
     crashes node view.command
-    && not (list_any (λ entry. is_fence entry.act) (door_entries view))
+    && length (fenced (door_entries view)) == 0
     && some_prefix (is_none_up node) (earliest view.before view) (last_front view) view.ran.trace.door
 
 -- ---- start

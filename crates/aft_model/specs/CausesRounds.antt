@@ -1,22 +1,18 @@
 -- The causes of what the rounds answer: announcements, deliveries, local collections, and the fault manager's.
-use Rattle.std.specs.Prelude.{ℕ, ◌==◌, ◌&&◌, Bool, true, false, List, [], ◌∷◌, length, is_some, if◌then◌else◌}
+use Rattle.std.specs.Prelude.{ℕ, ◌==◌, ◌&&◌, Bool, true, false, List, [], ◌∷◌, length, is_some}
 use Rattle.std.specs.List.{list_any, flat_map}
-use Rattle.aft_id.specs.declared.txn_id.TxnId.{TxnId}
-use Rattle.aft_model.specs.declared.caller.By.{By}
-use Rattle.aft_model.specs.declared.mail.MailEntry.{MailEntry}
 use Rattle.aft_model.specs.declared.node.NodeAct.{NodeAct}
 use Rattle.aft_model.specs.declared.node.NodeAct.TheVariants as node_acts
 use Rattle.aft_model.specs.declared.office.OfficeAct.{OfficeAct}
 use Rattle.aft_model.specs.declared.office.OfficeAct.TheVariants as office_acts
 use Rattle.aft_model.specs.declared.script.Command.{Command}
 use Rattle.aft_model.specs.declared.script.Command.TheVariants as commands
-use Rattle.aft_model.specs.Boxes.{refused_of}
 use Rattle.aft_model.specs.Known.{droppable}
+use Rattle.aft_model.specs.LinePosts.{from_office, refused_ids}
 use Rattle.aft_model.specs.LineView.{LineView, node_turns, found_service}
 use Rattle.aft_model.specs.NodeRules.{Counts, counts}
 use Rattle.aft_model.specs.NodeState.{Service, in_service}
 use Rattle.aft_model.specs.Office.{ManagerRound, round_in, runs}
-use Rattle.aft_model.specs.ScanRun.{same_line}
 use Rattle.aft_model.specs.Turns.{Turn, AtOffice}
 
 -- whether a command is an announcement, a delivery, a local collection, a round of the manager or a collection
@@ -42,13 +38,6 @@ is_collect command = false
 
 -- ---- at a node
 
--- the ids that boxes refused to a line, each once for each box that refused it
-abbrev pub refused_in : By → List MailEntry → List TxnId
-refused_in by history = flat_map (λ entry. if same_line by entry.by then refused_of entry.act else []) history
-
-abbrev pub refused_to : LineView → List TxnId
-refused_to view = flat_map (refused_in view.by) view.ran.mail
-
 -- whether an act takes so many commits to announce, and leaves out so many
 abbrev pub announces : ℕ → ℕ → NodeAct → Bool
 announces kept pruned (node_acts.Announce told left) = kept == length told && pruned == length left
@@ -59,7 +48,7 @@ abbrev pub is_announced_caused : ℕ → ℕ → ℕ → LineView → Bool
 is_announced_caused kept pruned dropped view =
     is_announcement view.command
     && list_any (λ turn. announces kept pruned turn.entry.act) (node_turns view)
-    && dropped == length (refused_to view)
+    && dropped == length (refused_ids (from_office view.by view.ran.mail))
 
 -- whether an act learns commits of which so many are taken in, superseded and known
 abbrev pub counts_as : ℕ → ℕ → ℕ → Counts → Bool

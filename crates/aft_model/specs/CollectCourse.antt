@@ -20,7 +20,7 @@ use Rattle.aft_model.specs.declared.office.OfficeAct.TheVariants as office_acts
 use Rattle.aft_model.specs.declared.reply.Reply.{Reply}
 use Rattle.aft_model.specs.declared.reply.Reply.TheVariants as replies
 use Rattle.aft_model.specs.CommitCourse.{is_acknowledged}
-use Rattle.aft_model.specs.Committed.{retired_by}
+use Rattle.aft_model.specs.Committed.{marks_in, is_among}
 use Rattle.aft_model.specs.CourseWords.{is_over, ends_at_office, tells_no_memory}
 use Rattle.aft_model.specs.Membership.{Incarnation, the_office, incarnation, same_incarnation}
 use Rattle.aft_model.specs.NodeSights.{is_fenced}
@@ -39,7 +39,7 @@ pub record Work : Type 0 where
 
 -- the commits of the full markers among pairs
 abbrev pub marked_on : List Pair → List Commit
-marked_on pairs = flat_map (λ pair. flat_map retired_by (markers_in pair)) pairs
+marked_on pairs = flat_map marks_in pairs
 
 -- the records that the records shown beside them supersede
 abbrev pub superseded_on : List Pair → List Commit
@@ -82,7 +82,7 @@ is_done id (Full c) = false
 
 -- whether a put is of this marker
 abbrev pub is_marker : Marker → Pair → Bool
-is_marker (Full c) pair = list_any (same_commit c) (flat_map retired_by (markers_in pair))
+is_marker (Full c) pair = is_among c (marks_in pair)
 is_marker (Done id) pair = list_any (is_done id) (markers_in pair)
 
 -- behind a call of the office: it goes on where it was acknowledged, and the commit is at fault where it failed

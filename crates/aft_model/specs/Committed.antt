@@ -19,13 +19,17 @@ abbrev pub retired_by : Marker → List Commit
 retired_by (Full c) = c ∷ []
 retired_by (Done id) = []
 
+-- the commit whose full marker a pair is
+abbrev pub marks_in : Pair → List Commit
+marks_in pair = flat_map retired_by (markers_in pair)
+
 -- the commits whose records an entry put or shows
 abbrev pub committed_by : DoorEntry → List Commit
 committed_by entry = flat_map records_in (proven_pairs entry)
 
 -- the commits whose full markers an entry put or shows
 abbrev pub marked_by : DoorEntry → List Commit
-marked_by entry = flat_map (λ pair. flat_map retired_by (markers_in pair)) (proven_pairs entry)
+marked_by entry = flat_map (λ pair. marks_in pair) (proven_pairs entry)
 
 -- the commits of a history, one for each time that their record was put or shown
 abbrev pub committed : List DoorEntry → List Commit

@@ -22,6 +22,7 @@ use Rattle.aft_model.specs.declared.reply.Reply.TheVariants as replies
 use Rattle.aft_model.specs.declared.trace.Trace.{Trace}
 use Rattle.aft_model.specs.AtomicReads.{is_atomic}
 use Rattle.aft_model.specs.Attempts.{same_attempt, attempts, reads, read_by, is_read}
+use Rattle.aft_model.specs.Choice.{wrote_at}
 use Rattle.aft_model.specs.Committed.{committed, has_uuid}
 use Rattle.aft_model.specs.DoorKnowledge.{is_open}
 use Rattle.aft_model.specs.Evidence.{shown_pairs, stored_pairs}
@@ -203,7 +204,7 @@ loses_nothing trace = each_entry (λ before entry. not (tells_loss entry.answer)
 -- whether a blocker names a key that its version's commit wrote, and a lower id at which the attempt read it
 abbrev pub is_blocker : List Commit → Attempt → List NodeEntry → Blocked → Bool
 is_blocker known a part blocked =
-    list_any (λ c. same_id blocked.id c.id && wrote blocked.key c) known
+    wrote_at blocked.key blocked.id known
     && id_lt blocked.read blocked.id
     && is_read (record { key = blocked.key; id = blocked.read }) (reads a part)
 

@@ -12,16 +12,15 @@ use Rattle.aft_model.specs.declared.node.NodeAct.{NodeAct}
 use Rattle.aft_model.specs.declared.node.NodeAct.TheVariants as node_acts
 use Rattle.aft_model.specs.declared.office.OfficeAct.{OfficeAct}
 use Rattle.aft_model.specs.declared.office.OfficeAct.TheVariants as office_acts
-use Rattle.aft_model.specs.declared.reply.Reply.{Reply}
-use Rattle.aft_model.specs.declared.reply.Reply.TheVariants.{NoMemory}
 use Rattle.aft_model.specs.declared.script.Command.{Command}
 use Rattle.aft_model.specs.declared.script.Command.TheVariants as commands
 use Rattle.aft_model.specs.Boxes.{refused_of}
+use Rattle.aft_model.specs.CourseWords.{tells_no_memory}
 use Rattle.aft_model.specs.Known.{is_listed, in_id_order}
 use Rattle.aft_model.specs.Office.{ManagerRound, ids_of, round_in}
 use Rattle.aft_model.specs.Readings.{same_id}
 use Rattle.aft_model.specs.ScanRun.{same_line}
-use Rattle.aft_model.specs.Turns.{Turn, AtNode, AtOffice, replies_of}
+use Rattle.aft_model.specs.Turns.{Turn, AtNode, AtOffice, answer_in}
 
 -- what was done at the box of a number
 pub record AtBox : Type 0 where
@@ -68,12 +67,8 @@ are_done wanting [] (done ∷ dones) = false
 are_done wanting (due ∷ dues) (done ∷ dones) = is_done due done && are_done wanting dues dones
 
 -- whether a line's turns answered that memory was wanting
-abbrev pub is_wanting : Reply → Bool
-is_wanting NoMemory = true
-is_wanting reply = false
-
 abbrev pub lacked_memory : List Turn → Bool
-lacked_memory line = list_any is_wanting (replies_of line)
+lacked_memory line = list_any (λ turn. tells_no_memory (answer_in turn)) line
 
 -- ---- announcements
 

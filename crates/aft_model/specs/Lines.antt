@@ -59,9 +59,13 @@ abbrev pub begins : Command → Bool
 begins (commands.Begin uuid node) = true
 begins command = false
 
--- the last begin of a line's client before the line
+-- the lines of a line's client before the line
+abbrev pub earlier_lines : List Line → Line → List Line
+earlier_lines lines line = filter (λ other. other.client == line.client && nat_lt other.number line.number) lines
+
+-- the last begin among them
 abbrev pub last_begin : List Line → Line → Option Line
-last_begin lines line = last_or None (filter (λ other. other.client == line.client && nat_lt other.number line.number && begins other.order) lines)
+last_begin lines line = last_or None (filter (λ other. begins other.order) (earlier_lines lines line))
 
 -- the attempt that a begin's answer gives: the one that runs, or the one that was joined
 abbrev pub attempt_by : List NodeEntry → NodeAct → Option Reply → Option Attempt

@@ -24,7 +24,7 @@ use Rattle.aft_model.specs.DoorKnowledge.{finds_absent}
 use Rattle.aft_model.specs.Evidence.{shows_absent}
 use Rattle.aft_model.specs.History.{each_after, followed}
 use Rattle.aft_model.specs.Known.{known}
-use Rattle.aft_model.specs.Membership.{Incarnation, incarnation, same_incarnation}
+use Rattle.aft_model.specs.Membership.{Incarnation, incarnation, same_incarnation, fenced}
 use Rattle.aft_model.specs.NodeState.{part}
 use Rattle.aft_model.specs.Readings.{same_id, same_commit, record_name, marker_name, versions_in}
 use Rattle.aft_model.specs.ScanRun.{ScanPage, same_line, scan_pages, is_scan_run, commits_on}
@@ -42,18 +42,14 @@ first_of (x ∷ xs) = Some x
 abbrev pub at_place : {A : Type 0} → ℕ → List A → Option A
 at_place place xs = first_of (drop place xs)
 
--- whether an act is the coming up, or the fence, of this incarnation
+-- whether an act is the coming up of this incarnation
 abbrev pub comes_up : Incarnation → DoorAct → Bool
 comes_up who (door_acts.Up node inc) = same_incarnation who (incarnation node inc)
 comes_up who act = false
 
-abbrev pub is_fence_of : Incarnation → DoorAct → Bool
-is_fence_of who (door_acts.Fence node inc) = same_incarnation who (incarnation node inc)
-is_fence_of who act = false
-
 -- whether a history has the fence of this incarnation
 abbrev pub is_fenced : Incarnation → List DoorEntry → Bool
-is_fenced who history = list_any (λ entry. is_fence_of who entry.act) history
+is_fenced who history = list_any (same_incarnation who) (fenced history)
 
 -- the UUID that an act admits this attempt for
 abbrev pub uuid_in : Attempt → NodeAct → List (List ℕ)

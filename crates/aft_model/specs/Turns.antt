@@ -1,6 +1,6 @@
 -- The turns of a line, in order: its entries in the histories of the door, of the nodes and of the office, put together by their fronts and places.
-use Rattle.std.specs.Prelude.{ℕ, suc, nat_lt, ◌+◌, ◌==◌, ◌&&◌, ◌||◌, Bool, false, List, [], ◌∷◌, ◌++◌, Option, Some, None, option_to_list, if◌then◌else◌}
-use Rattle.std.specs.List.{fold, flat_map}
+use Rattle.std.specs.Prelude.{ℕ, suc, nat_lt, ◌+◌, ◌==◌, ◌&&◌, ◌||◌, Bool, false, List, [], ◌∷◌, ◌++◌, Option, Some, None, if◌then◌else◌}
+use Rattle.std.specs.List.{fold}
 use Rattle.aft_id.specs.TxnId.{id_lt}
 use Rattle.aft_id.specs.declared.txn_id.TxnId.{TxnId}
 use Rattle.aft_model.specs.declared.caller.By.{By}
@@ -80,13 +80,6 @@ abbrev pub answer_in : Turn → Option Reply
 answer_in (AtDoor place act) = None
 answer_in (AtNode node before entry) = entry.answer
 answer_in (AtOffice before entry) = entry.answer
-
--- the replies of turns
-abbrev pub replies_in : Turn → List Reply
-replies_in turn = option_to_list (answer_in turn)
-
-abbrev pub replies_of : List Turn → List Reply
-replies_of line = flat_map replies_in line
 
 -- the front of a turn, or 0 at the door
 abbrev pub front_in : Turn → ℕ

@@ -1,5 +1,5 @@
 -- The lines of a run as they ran, and whether each has the cause of what it answered.
-use Rattle.std.specs.Prelude.{ℕ, nat_lt, ◌==◌, ◌&&◌, Bool, List, map, filter, Option, Some, None, IsTrue}
+use Rattle.std.specs.Prelude.{ℕ, ◌==◌, Bool, List, map, Option, Some, None, IsTrue}
 use Rattle.std.specs.List.{list_all, last_or, before_first}
 use Rattle.aft_model.specs.declared.caller.By.{By}
 use Rattle.aft_model.specs.declared.reply.Reply.{Reply}
@@ -9,13 +9,13 @@ use Rattle.aft_model.specs.Asked.{Asked, Ran}
 use Rattle.aft_model.specs.Causes.{cause, may_leave_out}
 use Rattle.aft_model.specs.FinishedText.{line_of, answers_of}
 use Rattle.aft_model.specs.LineView.{LineView}
-use Rattle.aft_model.specs.Lines.{lines, hold_before, whole_order}
+use Rattle.aft_model.specs.Lines.{lines, earlier_lines, hold_before, whole_order}
 use Rattle.aft_model.specs.Opening.{opening}
 use Rattle.aft_model.specs.Turns.{end_front, turns}
 
 -- the line of the same client before a line
 abbrev pub line_before : List Line → Line → Option Line
-line_before lines line = last_or None (filter (λ other. other.client == line.client && nat_lt other.number line.number) lines)
+line_before lines line = last_or None (earlier_lines lines line)
 
 -- how much of the door's history a client's answer before had seen, or where it had none, the last boot of the opening
 abbrev pub answered_front : Trace → Option Line → ℕ
