@@ -105,6 +105,31 @@ pub enum Reply {
     Collected(List<Judged>),
     /// collect: another collection is running.
     Collecting,
+    /// forget: the transaction of this id is forgotten from here on.
+    Forgot(TxnId),
+    /// forget: the transaction of this id isn't collected yet, and stays.
+    Kept(TxnId),
+    /// forget: the store knows nothing of this UUID.
+    Unknown(Uuid),
+    /// begin, forget: this UUID was forgotten in this run.
+    Forgotten(Uuid),
+    /// orphans: how many versions were deleted, were kept for a commit, had a UUID that was held or forgotten, and
+    /// met a failed call.
+    Orphans {
+        deleted: u64,
+        kept: u64,
+        held: u64,
+        fault: u64,
+    },
+    /// orphans: the key has more versions than one round may look at.
+    TooManyVersions,
+    /// backup: how many commits were copied, and how many markers.
+    Copied {
+        taken: u64,
+        marked: u64,
+    },
+    /// backup: another copy is being made.
+    Copying,
     /// Memory ran out.
     NoMemory,
 }

@@ -45,6 +45,12 @@ pub enum Command {
     Manager,
     /// One collection.
     Collect,
+    /// Forget the UUID of a transaction that is over and collected, at a node: it is free in later runs.
+    Forget { uuid: Uuid, node: u32 },
+    /// Delete the versions of a key that no commit and no running transaction has.
+    Orphans { key: Key },
+    /// Copy the store as it stands at one moment.
+    Backup,
 }
 
 /// In which order the clients' lines are run.
