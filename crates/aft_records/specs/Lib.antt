@@ -9,3 +9,5 @@ pub mod NameReading
 pub mod Stored
 pub mod Records
 pub mod Superseded
+pub mod Commits
+pub mod Kept
