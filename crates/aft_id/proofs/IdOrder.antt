@@ -3,12 +3,12 @@ use Rattle.std.proofs.Common.{◌≡◌, ℕ, ◌+◌, ◌*◌, ◌^◌, ◌<◌
 use Rattle.std.proofs.Math.Nat.{pow-succ', mul-le-mul_right}
 use Rattle.std.proofs.lemmas.List.{get_or_default}
 use Rattle.std.proofs.lemmas.List.Elements.{All-tail}
-use Rattle.std.specs.Cmp.{nat_cmp_is, Some-then}
+use Rattle.std.specs.Cmp.{nat_cmp_is, Some-then, IsTotalOrder}
 use Rattle.std.specs.Cmp.Lexicographic.{slice_cmp, slice_partial_cmp, lists_agrees, same_text, texts_ties}
 use Rattle.std.specs.Ordering.{nat_cmp, as_partial_cmp, ordering_then, partial_ordering_then, MatchOrdering, is_eq}
 use Rattle.std.specs.declared.cmp.Ordering.{Ordering}
 use Rattle.std.specs.declared.cmp.Ordering.TheVariants.{Less, Equal, Greater}
-use Rattle.std.proofs.lemmas.Cmp.{ranked, nat_cmp_total, tied_itself}
+use Rattle.std.proofs.lemmas.Cmp.{ranked, nat_cmp_total, nat_list_cmp_total, on_total, then_total}
 use Rattle.uuid.specs.Text.{by_index}
 use Rattle.uuid.proofs.TextLemmas.{by_index_same}
 use Rattle.aft_id.specs.TxnId.{IsUuid, uuid_number, id_cmp}
@@ -69,31 +69,23 @@ uuid_number-big_endian bytes long =
     ap big_endian listed ∙ omega arith
 
 -- UUIDs stand to each other as their numbers do
-uuid_order : (a b : List ℕ) → IsUuid a → IsUuid b → slice_cmp nat_cmp a b ≡ nat_cmp (uuid_number a) (uuid_number b)
+pub uuid_order : (a b : List ℕ) → IsUuid a → IsUuid b → slice_cmp nat_cmp a b ≡ nat_cmp (uuid_number a) (uuid_number b)
 uuid_order a b is_a is_b =
     let same_length : length a ≡ length b = omega arith in
     bytes_order a b same_length is_a.1 is_b.1
     ∙ ap (λ n. nat_cmp n (big_endian b)) (uuid_number-big_endian a is_a.0)
     ∙ ap (λ n. nat_cmp (uuid_number a) n) (uuid_number-big_endian b is_b.0)
 
--- UUIDs of one number are the same
-pub uuid_number_injective : (a b : List ℕ) → IsUuid a → IsUuid b → uuid_number a ≡ uuid_number b → a ≡ b
-uuid_number_injective a b is_a is_b same =
-    let tied : slice_cmp nat_cmp a b ≡ Equal =
-    uuid_order a b is_a is_b ∙ ap (λ n. nat_cmp n (uuid_number b)) same ∙ tied_itself nat_cmp_total (uuid_number b) in
-    same_text a b (sym (texts_ties a b ∙ ap is_eq tied))
-
 -- what the derived order of ids answers
-pub id_cmp-derived : (a b : TxnId) → IsUuid a.uuid → IsUuid b.uuid
-    → ordering_then (nat_cmp a.time b.time) (slice_cmp nat_cmp a.uuid b.uuid) ≡ id_cmp a b
-id_cmp-derived a b is_a is_b = ap (λ o. ordering_then (nat_cmp a.time b.time) o) (uuid_order a.uuid b.uuid is_a is_b)
-
-pub id_partial_cmp-derived : (a b : TxnId) → IsUuid a.uuid → IsUuid b.uuid
+pub id_partial_cmp-derived : (a b : TxnId)
     → partial_ordering_then (Some (nat_cmp a.time b.time)) (slice_partial_cmp (as_partial_cmp nat_cmp) a.uuid b.uuid) ≡ Some (id_cmp a b)
-id_partial_cmp-derived a b is_a is_b =
+id_partial_cmp-derived a b =
     ap (λ o. partial_ordering_then (Some (nat_cmp a.time b.time)) o) (lists_agrees (λ x y. refl) a.uuid b.uuid)
     ∙ Some-then (nat_cmp a.time b.time) (slice_cmp nat_cmp a.uuid b.uuid)
-    ∙ ap Some (id_cmp-derived a b is_a is_b)
+
+-- the order of ids is total
+pub id_cmp-total : IsTotalOrder id_cmp
+id_cmp-total = then_total (on_total (λ (id : TxnId). id.time) nat_cmp_total) (on_total (λ (id : TxnId). id.uuid) nat_list_cmp_total)
 
 both_tied : (o r : Ordering) → ordering_then o r ≡ Equal → (o ≡ Equal) × (r ≡ Equal)
 both_tied Less r tied = cc
@@ -101,11 +93,10 @@ both_tied Equal r tied = (refl, tied)
 both_tied Greater r tied = cc
 
 -- ids that are neither above nor below each other are the same
-pub same_id : (a b : TxnId) → IsUuid a.uuid → IsUuid b.uuid → id_cmp a b ≡ Equal → a ≡ b
-same_id a b is_a is_b tied =
-    let parts = both_tied (nat_cmp a.time b.time) (nat_cmp (uuid_number a.uuid) (uuid_number b.uuid)) tied in
+pub tied_ids : (a b : TxnId) → id_cmp a b ≡ Equal → a ≡ b
+tied_ids a b tied =
+    let parts = both_tied (nat_cmp a.time b.time) (slice_cmp nat_cmp a.uuid b.uuid) tied in
     let times : a.time ≡ b.time = ranked a.time b.time Equal (sym parts.0) in
-    let uuids : a.uuid ≡ b.uuid =
-    uuid_number_injective a.uuid b.uuid is_a is_b (ranked (uuid_number a.uuid) (uuid_number b.uuid) Equal (sym parts.1)) in
+    let uuids : a.uuid ≡ b.uuid = same_text a.uuid b.uuid (sym (texts_ties a.uuid b.uuid ∙ ap is_eq parts.1)) in
     let id : ℕ → List ℕ → TxnId = λ t u. record { time = t; uuid = u } in
     ap (λ t. id t a.uuid) times ∙ ap (λ u. id b.time u) uuids

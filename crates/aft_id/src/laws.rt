@@ -1,22 +1,26 @@
 //! Laws of this crate's definitions, as calls that do nothing and promise them.
 
-ghost use Rattle.std.specs.Prelude.{◌≡◌, ◌↔◌, ◌^◌, ◌-◌, Some, None, codes, true};
+ghost use Rattle.std.specs.Prelude.{◌≡◌, ◌↔◌, ◌^◌, ◌-◌, ℕ, List, Some, None, codes, true};
 ghost use Rattle.std.specs.Cmp.{IsTotalOrder};
+ghost use Rattle.std.specs.Cmp.Lexicographic.{slice_cmp};
+ghost use Rattle.std.specs.Ordering.{nat_cmp};
 ghost use Rattle.std.specs.declared.cmp.Ordering.TheVariants.{Less, Equal};
 ghost use Rattle.std.specs.Int.{w128, to_be_bytes};
-ghost use Rattle.aft_id.specs.TxnId.{IsUuid, id_cmp, id_lt, id_text};
+ghost use Rattle.aft_id.specs.TxnId.{IsUuid, id_cmp, id_lt, id_text, same_id, uuid_number};
 ghost use Rattle.aft_id.specs.UuidText.{uuid_of_text};
 
 use crate::txn_id::TxnId;
 use std::cmp::Ordering;
 
-/// The order of ids is total, is what `<` and `cmp` answer, and tells ids apart.
+/// The order of ids is total, is what `<` and `cmp` answer, and tells ids apart; UUIDs stand in it as their 128-bit numbers do.
 pub fn id_order()
     ensures total { IsTotalOrder id_cmp }
-    ensures answered { (a b : TxnId) → IsUuid a.uuid → IsUuid b.uuid → ⟦<TxnId as Ord>⟧.cmp a b ≡ id_cmp a b }
-    ensures compared { (a b : TxnId) → IsUuid a.uuid → IsUuid b.uuid → ⟦<TxnId as PartialOrd>⟧.partial_cmp a b ≡ Some (id_cmp a b) }
-    ensures same { (a b : TxnId) → IsUuid a.uuid → IsUuid b.uuid → id_cmp a b ≡ Ordering.Equal → a ≡ b }
+    ensures answered { (a b : TxnId) → ⟦<TxnId as Ord>⟧.cmp a b ≡ id_cmp a b }
+    ensures compared { (a b : TxnId) → ⟦<TxnId as PartialOrd>⟧.partial_cmp a b ≡ Some (id_cmp a b) }
+    ensures tied { (a b : TxnId) → id_cmp a b ≡ Ordering.Equal → a ≡ b }
+    ensures same { (a b : TxnId) → (same_id a b ≡ true) ↔ (a ≡ b) }
     ensures below { (a b : TxnId) → (id_lt a b ≡ true) ↔ (id_cmp a b ≡ Ordering.Less) }
+    ensures numbered { (a b : List ℕ) → IsUuid a → IsUuid b → slice_cmp nat_cmp a b ≡ nat_cmp (uuid_number a) (uuid_number b) }
 {}
 
 /// What some texts name, and how an id is written.

@@ -40,17 +40,14 @@ impl TxnId {
     pub fn compare(&self, other: &TxnId) -> Ordering
         ensures { result ≡ id_cmp self.now other.now }
     {
-        self.time
-            .cmp(&other.time)
-            .then(self.uuid.as_u128().cmp(&other.uuid.as_u128()))
+        self.time.cmp(&other.time).then(self.uuid.cmp(&other.uuid))
     }
 
     /// Whether this id is below another, as `<` is.
     pub fn is_before(&self, other: &TxnId) -> bool
         ensures { result ≡ id_lt self.now other.now }
     {
-        self.time < other.time
-            || self.time == other.time && self.uuid.as_u128() < other.uuid.as_u128()
+        self.compare(other).is_lt()
     }
 
     /// The text of this id: its time in decimal digits, `-`, and its UUID hyphenated in lower case.
