@@ -19,7 +19,7 @@ use Rattle.aft_records.specs.Rows.{version_tag, commit_tag, full_tag, done_tag, 
 use Rattle.aft_records.specs.Gives.{◌>>=◌, Gives}
 use Rattle.aft_records.specs.Limits.{is_time, is_key, is_key_count, ascend, is_value_length}
 use Rattle.aft_records.specs.Place.{Place, start}
-use Rattle.aft_records.specs.Reading.{part_at, id_at, bytes_at, text_at, texts_at, texts_after, u32_at, tag_at, end_at, checked_time, checked_keys, checked_set, checked_key, checked_value, commit_at, ended_commit, commit_behind, version_at, ended_version, ended_id, commit_of, version_of, full_of, done_of, marker_of}
+use Rattle.aft_records.specs.Reading.{part_at, id_at, bytes_at, text_at, texts_at, texts_after, u32_at, tag_at, end_at, checked_time, checked_keys, checked_set, checked_key, checked_value, commit_at, ended_commit, commit_behind, version_at, ended_version, ended_id, first_commit_of, version_of, full_of, done_of, marker_of}
 use Rattle.aft_records.specs.Stored.{IsCommit, IsVersion, IsMarker}
 use Rattle.aft_records.proofs.Steps.{bind_ok, test_ok, ok_is}
 use Rattle.aft_records.proofs.LimitTests.{time_below, key_limits, set_limits}
@@ -121,8 +121,8 @@ commit_read bytes tag place c fits tagged e =
       spelled = behind_tag bytes tag (flat_map cell (commit_cells a.0.0)) place a.0.1 tagged t.takes ended;
     })
 
-pub commit_found : (bytes : List ℕ) (c : Commit) → IsBytes bytes → commit_of bytes ≡ Ok c → IsCommit c × (bytes ≡ commit_row c)
-unfolding commit_of
+pub commit_found : (bytes : List ℕ) (c : Commit) → IsBytes bytes → first_commit_of bytes ≡ Ok c → IsCommit c × (bytes ≡ commit_row c)
+unfolding first_commit_of
 commit_found bytes c fits e =
     let a = bind_ok (tag_at commit_tag (start bytes)) (λ place. commit_behind place) c e in
     let r = commit_read bytes commit_tag a.0 c fits (tag_takes commit_tag (start bytes) a.0 fits a.1) a.2 in

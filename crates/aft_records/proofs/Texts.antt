@@ -52,6 +52,8 @@ module _ (field : ℕ) (front : List (List ℕ)) (count i : ℕ) (before : Optio
   ends faults.BadTime lt h so_far = fails faults.BadTime lt h so_far
   ends faults.BadKeys lt h so_far = fails faults.BadKeys lt h so_far
   ends (faults.BadKey k) lt h so_far = fails (faults.BadKey k) lt h so_far
+  ends faults.BadOrigin lt h so_far = fails faults.BadOrigin lt h so_far
+  ends faults.BadReads lt h so_far = fails faults.BadReads lt h so_far
   ends faults.LongValue lt h so_far = fails faults.LongValue lt h so_far
 
   pub is_done : count ≤ i → with_front front (texts_after field (count - i) before place) ≡ total → total ≡ Ok (front, place)

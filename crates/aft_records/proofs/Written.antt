@@ -17,7 +17,7 @@ use Rattle.aft_records.specs.Rows.{version_tag, commit_tag, full_tag, done_tag, 
 use Rattle.aft_records.specs.Gives.{◌>>=◌}
 use Rattle.aft_records.specs.Limits.{is_time, IsTime, AreKeys}
 use Rattle.aft_records.specs.Place.{Place, start}
-use Rattle.aft_records.specs.Reading.{id_at, tag_at, checked_time, checked_set, commit_at, ended_commit, commit_behind, version_at, ended_version, ended_id, commit_of, version_of, full_of, done_of, marker_of}
+use Rattle.aft_records.specs.Reading.{id_at, tag_at, checked_time, checked_set, commit_at, ended_commit, commit_behind, version_at, ended_version, ended_id, first_commit_of, version_of, full_of, done_of, marker_of}
 use Rattle.aft_records.specs.Stored.{IsWritableId, IsWritableCommit, IsWritableVersion, IsWritableMarker, marker_time, if_timely}
 use Rattle.aft_records.proofs.Steps.{ok_is}
 use Rattle.aft_records.proofs.KeyChecks.{checked_keys-all}
@@ -103,8 +103,8 @@ commit_whole c fits at =
     let p = alone commit_at (flat_map cell (commit_cells c)) c (commit_again c fits) at in
     rw (p.1, set_again c.keys fits.keys) (timely c.id.time c)
 
-pub commit_written : (c : Commit) → IsWritableCommit c → commit_of (commit_row c) ≡ if_timely c.id.time c
-unfolding commit_of
+pub commit_written : (c : Commit) → IsWritableCommit c → first_commit_of (commit_row c) ≡ if_timely c.id.time c
+unfolding first_commit_of
 commit_written c fits =
     let t = tag_again commit_tag refl (flat_map cell (commit_cells c)) in
     rw t.1 (commit_whole c fits t.0)

@@ -1,11 +1,12 @@
 pub mod Limits
 pub mod Gives
 pub mod Cells
+pub mod Names
 pub mod Rows
 pub mod Place
-pub mod Reading
-pub mod Names
 pub mod NameReading
+pub mod ReadIds
+pub mod Reading
 pub mod Stored
 pub mod Records
 pub mod Superseded

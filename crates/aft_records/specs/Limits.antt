@@ -1,5 +1,5 @@
 -- The limits of keys, write sets, values and times.
-use Rattle.std.specs.Prelude.{ℕ, ◌≤◌, ◌^◌, Bool, true, ◌&&◌, nat_le, nat_lt, List, [], ◌∷◌, length, Option, Some, None, IsTrue}
+use Rattle.std.specs.Prelude.{ℕ, ◌≤◌, ◌^◌, ◌==◌, Bool, true, ◌&&◌, if◌then◌else◌, nat_le, nat_lt, List, [], ◌∷◌, length, Option, Some, None, IsTrue}
 use Rattle.std.specs.List.{list_all}
 use Rattle.std.specs.Ordering.{is_lt, nat_cmp}
 use Rattle.std.specs.Cmp.Lexicographic.{slice_cmp}
@@ -50,6 +50,15 @@ pub record AreKeys (keys : List (List ℕ)) : Type 0 where
   pub few : length keys ≤ 32
   pub each : IsTrue (list_all is_key keys)
   pub ascending : IsTrue (ascend keys)
+
+-- whether a record may come from this node and incarnation with so many reads: the office, which is node 0, has
+-- incarnation 0 and read nothing, and the nodes 1 to 8 count their incarnations from 1
+abbrev pub is_origin : ℕ → ℕ → ℕ → Bool
+is_origin node inc reads = nat_le node 8 && nat_lt inc (2 ^ 32) && (if node == 0 then inc == 0 && reads == 0 else nat_le 1 inc)
+
+-- whether a record may name so many reads: at most 8
+abbrev pub is_read_count : ℕ → Bool
+is_read_count n = nat_le n 8
 
 -- whether a value may have so many bytes: at most 4,096
 abbrev pub is_value_length : ℕ → Bool

@@ -6,15 +6,17 @@ use Rattle.std.specs.Cmp.Lexicographic.{pointwise}
 use Rattle.aft_id.specs.declared.txn_id.TxnId.{TxnId}
 use Rattle.aft_records.specs.declared.fault.FieldFault.TheVariants.{Short, Tag, NotUtf8, Unsorted, Spare}
 use Rattle.aft_records.specs.declared.fault.RecordFault.{RecordFault}
-use Rattle.aft_records.specs.declared.fault.RecordFault.TheVariants.{Field, BadTime, BadKeys, BadKey, LongValue}
+use Rattle.aft_records.specs.declared.fault.RecordFault.TheVariants.{Field, BadTime, BadKeys, BadKey, BadOrigin, BadReads, LongValue}
 use Rattle.aft_records.specs.declared.stored.Commit.{Commit}
+use Rattle.aft_records.specs.declared.stored.Record.{Record}
 use Rattle.aft_records.specs.declared.stored.Version.{Version}
 use Rattle.aft_records.specs.declared.stored.Marker.{Marker}
 use Rattle.aft_records.specs.declared.stored.Marker.TheVariants.{Full, Done}
 use Rattle.aft_records.specs.Gives.{◌>>=◌}
-use Rattle.aft_records.specs.Limits.{is_time, is_key, follows, is_key_count, is_value_length}
+use Rattle.aft_records.specs.Limits.{is_time, is_key, follows, is_key_count, is_origin, is_read_count, is_value_length}
 use Rattle.aft_records.specs.Place.{Place, start}
-use Rattle.aft_records.specs.Rows.{version_tag, commit_tag, full_tag, done_tag}
+use Rattle.aft_records.specs.ReadIds.{ids_of}
+use Rattle.aft_records.specs.Rows.{version_tag, commit_tag, record_tag, full_tag, done_tag}
 
 -- ---- the parts of a row: each gives what it read, and the place after it
 
@@ -149,9 +151,9 @@ commit_behind place = do
   read ← commit_at place
   ended_commit read
 
--- the commit whose record the bytes are, or the first fault
-unfoldable pub commit_of : List ℕ → Result Commit RecordFault
-commit_of bytes = do
+-- the commit whose record of the first format the bytes are, or the first fault
+unfoldable pub first_commit_of : List ℕ → Result Commit RecordFault
+first_commit_of bytes = do
   place ← tag_at commit_tag (start bytes)
   commit_behind place
 
@@ -180,3 +182,48 @@ unfoldable pub marker_of : List ℕ → Result Marker RecordFault
 marker_of bytes = do
   tag ← part_at 3 (start bytes)
   if pointwise nat_eq tag.0 full_tag then full_of tag.1 else if pointwise nat_eq tag.0 done_tag then done_of tag.1 else Err (Field Tag)
+
+-- ---- records of the second format
+
+-- an origin within its limits
+abbrev pub checked_origin : ℕ → ℕ → List (List ℕ) → Result Unit RecordFault
+checked_origin node inc reads = if is_origin node inc (length reads) then Ok tt else Err BadOrigin
+
+-- the ids that were found, or the fault
+abbrev pub found_ids : Option (List TxnId) → Result (List TxnId) RecordFault
+found_ids (Some ids) = Ok ids
+found_ids None = Err BadReads
+
+-- the reads of a record, by their texts
+abbrev pub checked_reads : List (List ℕ) → Result (List TxnId) RecordFault
+checked_reads reads = if is_read_count (length reads) then found_ids (ids_of reads) else Err BadReads
+
+-- a record within its limits, by its cells
+unfoldable pub checked_record : TxnId → List (List ℕ) → ℕ → ℕ → List (List ℕ) → Result Record RecordFault
+checked_record id keys node inc reads = do
+  _ ← checked_time id.time
+  keys ← checked_set keys
+  _ ← checked_origin node inc reads
+  ids ← checked_reads reads
+  Ok (record { commit = record { id = id; keys = keys }; origin = record { node = node; inc = inc; reads = ids } })
+
+-- the record of the second format that the bytes are, or the first fault
+unfoldable pub record_of : List ℕ → Result Record RecordFault
+record_of bytes = do
+  place ← tag_at record_tag (start bytes)
+  id ← id_at place
+  keys ← texts_at 2 id.1
+  node ← u64_at keys.1
+  inc ← u64_at node.1
+  reads ← texts_at 5 inc.1
+  _ ← end_at reads.1
+  checked_record id.0 keys.0 node.0 inc.0 reads.0
+
+-- the commit of a record that was read
+abbrev pub commit_in : Result Record RecordFault → Result Commit RecordFault
+commit_in (Ok r) = Ok r.commit
+commit_in (Err e) = Err e
+
+-- the commit whose record the bytes are, in either format, or the first fault
+unfoldable pub commit_of : List ℕ → Result Commit RecordFault
+commit_of bytes = if pointwise nat_eq (take 3 bytes) record_tag then commit_in (record_of bytes) else first_commit_of bytes

@@ -1,8 +1,8 @@
--- Which bytes are a record of a commit. There may be more than one format, so speak of records by this alone.
-use Rattle.std.specs.Prelude.{◌≡◌, ℕ, List}
+-- Which bytes are a record of a commit. There are two formats, so speak of records by this alone.
+use Rattle.std.specs.Prelude.{◌≡◌, ℕ, List, Ok}
 use Rattle.aft_records.specs.declared.stored.Commit.{Commit}
-use Rattle.aft_records.specs.Rows.{commit_row}
+use Rattle.aft_records.specs.Reading.{commit_of}
 
--- bytes that are a record of this commit
+-- bytes that are a record of this commit, in either format
 abbrev pub IsRecordOf : List ℕ → Commit → Type 0
-IsRecordOf bytes c = bytes ≡ commit_row c
+IsRecordOf bytes c = commit_of bytes ≡ Ok c

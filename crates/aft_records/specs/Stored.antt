@@ -1,16 +1,19 @@
 -- Which ids, commits, versions, markers and names can be written, and which keep the limits besides.
-use Rattle.std.specs.Prelude.{ℕ, ◌<◌, ◌≤◌, ◌^◌, length, Result, Ok, Err, if◌then◌else◌}
+use Rattle.std.specs.Prelude.{ℕ, ◌<◌, ◌≤◌, ◌^◌, List, All, map, length, IsTrue, Result, Ok, Err, if◌then◌else◌}
 use Rattle.aft_id.specs.declared.txn_id.TxnId.{TxnId}
 use Rattle.aft_id.specs.TxnId.{IsUuid}
 use Rattle.aft_records.specs.declared.fault.RecordFault.{RecordFault}
 use Rattle.aft_records.specs.declared.fault.RecordFault.TheVariants.{BadTime}
 use Rattle.aft_records.specs.declared.stored.Commit.{Commit}
+use Rattle.aft_records.specs.declared.stored.Origin.{Origin}
+use Rattle.aft_records.specs.declared.stored.Record.{Record}
 use Rattle.aft_records.specs.declared.stored.Version.{Version}
 use Rattle.aft_records.specs.declared.stored.Marker.{Marker}
 use Rattle.aft_records.specs.declared.stored.Marker.TheVariants.{Full, Done}
 use Rattle.aft_records.specs.declared.name.Name.{Name}
 use Rattle.aft_records.specs.declared.name.Name.TheVariants.{VersionOf, CommitOf, RetiredOf}
-use Rattle.aft_records.specs.Limits.{is_time, IsTime, IsKey, AreKeys}
+use Rattle.aft_records.specs.Limits.{is_time, IsTime, IsKey, ascend, AreKeys, is_origin}
+use Rattle.aft_records.specs.Names.{id_digits}
 
 -- an id of any time
 pub record IsWritableId (id : TxnId) : Type 0 where
@@ -21,6 +24,22 @@ pub record IsWritableId (id : TxnId) : Type 0 where
 pub record IsWritableCommit (c : Commit) : Type 0 where
   pub id : IsWritableId c.id
   pub keys : AreKeys c.keys
+
+-- the reads of a record: at most 8 ids, ascending strictly, of any time
+pub record AreReads (reads : List TxnId) : Type 0 where
+  pub few : length reads ≤ 8
+  pub each : All IsWritableId reads
+  pub ascending : IsTrue (ascend (map id_digits reads))
+
+-- an origin whose reads have any time
+pub record IsWritableOrigin (o : Origin) : Type 0 where
+  pub limits : IsTrue (is_origin o.node o.inc (length o.reads))
+  pub reads : AreReads o.reads
+
+-- a record of any time
+pub record IsWritableRecord (r : Record) : Type 0 where
+  pub commit : IsWritableCommit r.commit
+  pub origin : IsWritableOrigin r.origin
 
 -- a version of any time
 pub record IsWritableVersion (v : Version) : Type 0 where
@@ -45,6 +64,10 @@ if_timely time value = if is_time time then Ok value else Err BadTime
 -- a commit within the limits
 abbrev pub IsCommit : Commit → Type 0
 IsCommit c = IsWritableCommit c × IsTime c.id.time
+
+-- a record within the limits
+abbrev pub IsRecord : Record → Type 0
+IsRecord r = IsWritableRecord r × IsTime r.commit.id.time × All (λ id. IsTime id.time) r.origin.reads
 
 -- a version within the limits
 abbrev pub IsVersion : Version → Type 0

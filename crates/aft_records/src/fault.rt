@@ -44,6 +44,13 @@ pub enum RecordFault {
     /// The key of this index, counted from 0, is not 1 to 64 bytes of 33 to 126.
     #[error("key {index} is not 1 to 64 printable bytes")]
     BadKey { index: u32 },
+    /// The node is above 8, or its incarnation is not one that the node can have: 0, and no read, for node 0, and
+    /// 1 to 2^32 - 1 for any other.
+    #[error("not an origin")]
+    BadOrigin,
+    /// There are more than 8 reads, or one is not the text of an id whose time is within its limit.
+    #[error("not the texts of at most 8 ids")]
+    BadReads,
     /// The value has more than 4,096 bytes.
     #[error("the value is longer than 4096 bytes")]
     LongValue,

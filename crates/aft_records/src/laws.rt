@@ -4,7 +4,7 @@ ghost use Rattle.std.specs.Prelude.{◌≡◌, ℕ, ◌++◌, List};
 ghost use Rattle.aft_records.specs.Rows.{commit_row, version_row, marker_row};
 ghost use Rattle.aft_records.specs.Names.{name_text};
 ghost use Rattle.aft_records.specs.NameReading.{name_of};
-ghost use Rattle.aft_records.specs.Reading.{commit_of, version_of, marker_of};
+ghost use Rattle.aft_records.specs.Reading.{first_commit_of, version_of, marker_of};
 ghost use Rattle.aft_records.specs.Stored.{IsCommit, IsVersion, IsMarker, IsName, IsWritableCommit, IsWritableVersion, IsWritableMarker, IsWritableName, marker_time, if_timely};
 
 use crate::name::Name;
@@ -12,14 +12,14 @@ use crate::stored::{Commit, Marker, Version};
 
 /// Reading what was written gives the value, for each value within the limits.
 pub fn reading_of_written()
-    ensures commit { (c : Commit) → IsCommit c → commit_of (commit_row c) ≡ Ok c }
+    ensures commit { (c : Commit) → IsCommit c → first_commit_of (commit_row c) ≡ Ok c }
     ensures version { (v : Version) → IsVersion v → version_of (version_row v) ≡ Ok v }
     ensures marker { (m : Marker) → IsMarker m → marker_of (marker_row m) ≡ Ok m }
 {}
 
 /// What was written has a reading exactly where its time keeps the limit, and is a `BadTime` otherwise.
 pub fn reading_by_time()
-    ensures commit { (c : Commit) → IsWritableCommit c → commit_of (commit_row c) ≡ if_timely c.id.time c }
+    ensures commit { (c : Commit) → IsWritableCommit c → first_commit_of (commit_row c) ≡ if_timely c.id.time c }
     ensures version { (v : Version) → IsWritableVersion v → version_of (version_row v) ≡ if_timely v.id.time v }
     ensures marker { (m : Marker) → IsWritableMarker m → marker_of (marker_row m) ≡ if_timely (marker_time m) m }
 {}

@@ -24,4 +24,4 @@ pub use laws::{
     reading_of_written,
 };
 pub use name::Name;
-pub use stored::{Commit, Marker, Version};
+pub use stored::{Commit, Marker, Origin, Record, Version};

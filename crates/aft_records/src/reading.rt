@@ -3,10 +3,9 @@
 ghost use Rattle.std.specs.Prelude.{◌≡◌, None, IfOk, IsTrue};
 ghost use Rattle.aft_records.specs.Gives.{Gives};
 ghost use Rattle.aft_records.specs.Limits.{is_time, ascend};
-ghost use Rattle.aft_records.specs.Rows.{version_row, marker_row};
-ghost use Rattle.aft_records.specs.Records.{IsRecordOf};
+ghost use Rattle.aft_records.specs.Rows.{commit_row, version_row, marker_row};
 ghost use Rattle.aft_records.specs.Stored.{IsCommit, IsVersion, IsMarker};
-ghost use Rattle.aft_records.specs.Reading.{texts_after, texts_at, checked_time, commit_at, ended_commit, commit_behind, version_at, ended_version, ended_id, commit_of, version_of, full_of, done_of, marker_of};
+ghost use Rattle.aft_records.specs.Reading.{texts_after, texts_at, checked_time, commit_at, ended_commit, commit_behind, version_at, ended_version, ended_id, first_commit_of, version_of, full_of, done_of, marker_of};
 
 use crate::fault::{FieldFault, RecordFault};
 use crate::key::{Key, is_key};
@@ -160,9 +159,9 @@ fn version_cells<'a>(walk: Walk<'a>) -> Result<(VersionCells<'a>, Walk<'a>), Rec
 }
 
 /// A commit's record, whole.
-#[tactic(auto, unfolding(crate::specs::Reading::commit_of))]
+#[tactic(auto, unfolding(crate::specs::Reading::first_commit_of))]
 fn commit_from(alloc: Global, bytes: &[u8]) -> Result<Commit, RecordFault>
-    ensures { Gives (λ read. read) result (commit_of bytes.now) }
+    ensures { Gives (λ read. read) result (first_commit_of bytes.now) }
 {
     let walk = Walk::start(bytes).tag(*b"AC1")?;
     commit_behind(alloc, walk)
@@ -218,11 +217,11 @@ impl Commit {
     /// and then `BadTime`, `BadKeys` or `BadKey`.
     pub fn decode(alloc: Global, bytes: &[u8]) -> Result<Commit, RecordFault>
         // What is read is spelled so, and within the limits.
-        ensures found { IfOk result (λ commit. IsCommit commit × IsRecordOf bytes.now commit) }
+        ensures found { IfOk result (λ commit. IsCommit commit × (bytes.now ≡ commit_row commit)) }
         // What is spelled so, and within the limits, is read, unless memory runs out.
-        ensures only { (commit : Commit) → IsCommit commit → IsRecordOf bytes.now commit → Gives (λ read. read) result (Ok commit) }
+        ensures only { (commit : Commit) → IsCommit commit → bytes.now ≡ commit_row commit → Gives (λ read. read) result (Ok commit) }
         // Which fault it is.
-        ensures exact { Gives (λ read. read) result (commit_of bytes.now) }
+        ensures exact { Gives (λ read. read) result (first_commit_of bytes.now) }
     {
         commit_from(alloc, bytes)
     }

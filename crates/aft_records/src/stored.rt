@@ -4,7 +4,7 @@ ghost use Rattle.std.specs.Prelude.{◌≡◌};
 
 use crate::key::Key;
 use crate::keys::Keys;
-use aft_id::{Bytes, TxnId};
+use aft_id::{Bytes, List, TxnId};
 use std::alloc::AllocError;
 
 /// A transaction that committed: its id, and the keys that it wrote.
@@ -12,6 +12,24 @@ use std::alloc::AllocError;
 pub struct Commit {
     pub id: TxnId,
     pub keys: Keys,
+}
+
+/// Who wrote a record, and what its transaction had read.
+#[derive(Debug, PartialEq, Eq, Drop)]
+pub struct Origin {
+    /// The node that wrote it, 1 to 8, or 0 for the office.
+    pub node: u32,
+    /// The incarnation of the node, 1 to 2^32 - 1, or 0 for the office.
+    pub inc: u32,
+    /// At most 8 ids that the transaction had read, ascending strictly. The office read none.
+    pub reads: List<TxnId>,
+}
+
+/// A commit with its origin: what a record of the second format holds.
+#[derive(Debug, PartialEq, Eq, Drop)]
+pub struct Record {
+    pub commit: Commit,
+    pub origin: Origin,
 }
 
 /// What a transaction wrote under one key.
@@ -40,6 +58,29 @@ impl Clone for Commit {
         Ok(Commit {
             id: self.id,
             keys: self.keys.clone()?,
+        })
+    }
+}
+
+impl Clone for Origin {
+    ghost is_clone = { λ origin copy. copy ≡ origin };
+
+    fn clone(&self) -> Result<Origin, AllocError> {
+        Ok(Origin {
+            node: self.node,
+            inc: self.inc,
+            reads: self.reads.clone()?,
+        })
+    }
+}
+
+impl Clone for Record {
+    ghost is_clone = { λ whole copy. copy ≡ whole };
+
+    fn clone(&self) -> Result<Record, AllocError> {
+        Ok(Record {
+            commit: self.commit.clone()?,
+            origin: self.origin.clone()?,
         })
     }
 }

@@ -3,7 +3,6 @@
 ghost use Rattle.std.specs.Prelude.{◌≡◌, ◌<◌, ◌≤◌, ◌^◌, ◌++◌, List, [], ◌∷◌, length, OnOk, IfOk};
 ghost use Rattle.std.specs.List.{flat_map};
 ghost use Rattle.aft_records.specs.Cells.{U64, U128, Texts, counted, cell};
-ghost use Rattle.aft_records.specs.Records.{IsRecordOf};
 ghost use Rattle.aft_records.specs.Rows.{commit_cells, commit_row, version_row, marker_row};
 
 use crate::keys::Keys;
@@ -54,8 +53,7 @@ fn commit_behind(alloc: Global, tag: &[u8], commit: &Commit) -> Result<Bytes, Me
 impl Commit {
     /// The record of the commit, as stored.
     pub fn encode(&self, alloc: Global) -> Result<Bytes, Memory>
-        ensures spelling { IfOk result (λ bytes. bytes ≡ commit_row self.now) }
-        ensures is_record { IfOk result (λ bytes. IsRecordOf bytes self.now) }
+        ensures { IfOk result (λ bytes. bytes ≡ commit_row self.now) }
     {
         commit_behind(alloc, b"AC1", self)
     }
