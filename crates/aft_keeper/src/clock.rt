@@ -1,4 +1,4 @@
-ghost use Rattle.std.specs.Prelude.{◌≡◌, ℕ, Option, Some, IfSome};
+ghost use Rattle.std.specs.Prelude.{◌≡◌, ℕ, Option, None, Some, IfSome};
 
 /// A clock.
 pub trait Clock {
@@ -15,6 +15,13 @@ pub trait Clock {
 pub struct FixedClock {
     /// What it answers, in milliseconds since the start of 1970.
     pub time: u64,
+}
+
+impl FixedClock {
+    /// A law: a clock that stands still tells its time.
+    pub fn law_tells(clock: &FixedClock)
+        ensures { ⟦<FixedClock as Clock>⟧.time clock.now ≡ Some clock.now.time }
+    {}
 }
 
 impl Clock for FixedClock {

@@ -117,6 +117,12 @@ impl MemKeeper {
         ensures { ⟦<MemKeeper as Keeper>⟧.faults keeper.now ≡ 0 }
     {}
 
+    /// A law: a store in memory tells what it holds, and each call that it answered.
+    pub fn law_tells(keeper: &MemKeeper)
+        ensures contents { ⟦<MemKeeper as Keeper>⟧.contents keeper.now ≡ Some (contents_of keeper.now) }
+        ensures log { ⟦<MemKeeper as Keeper>⟧.log keeper.now ≡ Some (log_of keeper.now) }
+    {}
+
     /// How the next call goes.
     fn fate(&self) -> Fate
         ensures { result ≡ fate_of self.now }

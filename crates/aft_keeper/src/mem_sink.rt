@@ -1,6 +1,6 @@
 //! A sink in memory.
 
-ghost use Rattle.std.specs.Prelude.{◌≡◌, ◌↔◌, [], Some, IsTrue, IsErrOf};
+ghost use Rattle.std.specs.Prelude.{◌≡◌, ◌↔◌, [], None, Some, IsTrue, IsErrOf};
 ghost use Rattle.aft_keeper.specs.Cause.{HasCause};
 ghost use Rattle.aft_keeper.specs.Taken.{Takes};
 
@@ -45,6 +45,11 @@ impl MemSink {
     pub fn law_no_faults(sink: &MemSink)
         requires { NeverFails (failures_of sink.now) }
         ensures { ⟦<MemSink as Sink>⟧.faults sink.now ≡ 0 }
+    {}
+
+    /// A law: a sink in memory tells what it has taken.
+    pub fn law_tells(sink: &MemSink)
+        ensures { ⟦<MemSink as Sink>⟧.taken sink.now ≡ Some (taken_of sink.now) }
     {}
 }
 

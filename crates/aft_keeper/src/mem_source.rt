@@ -47,6 +47,11 @@ impl MemSource {
         requires { NeverFails (failures_of source.now) }
         ensures { ⟦<MemSource as Source>⟧.faults source.now ≡ 0 }
     {}
+
+    /// A law: a source in memory tells its files.
+    pub fn law_tells(source: &MemSource)
+        ensures { ⟦<MemSource as Source>⟧.files source.now ≡ Some (files_of source.now) }
+    {}
 }
 
 impl Source for MemSource {
