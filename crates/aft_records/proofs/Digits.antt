@@ -26,10 +26,10 @@ all_pass-at p (suc n) k h lt =
           rw e parts.0
     ]
 
-abbrev code_of : ℕ → ℕ
+abbrev pub code_of : ℕ → ℕ
 code_of v = cond (ltb v 10) (v + 48) (v + 87)
 
-digit_spelled : (v : ℕ) → v < 16 → slice_index lower_digits v ≡ code_of v
+pub digit_spelled : (v : ℕ) → v < 16 → slice_index lower_digits v ≡ code_of v
 digit_spelled v lt = eqb-true (slice_index lower_digits v) (code_of v) (all_pass-at (λ d. slice_index lower_digits d == code_of d) 16 v refl lt)
 
 -- a digit that is not in upper case is the one of its value

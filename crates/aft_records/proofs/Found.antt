@@ -1,101 +1,42 @@
 -- What is read is spelled so, and keeps the limits.
-use Rattle.std.proofs.Common.{◌≡◌, ℕ, ◌≤◌, Bool, true, false, cond, eqb, List, [], ◌++◌, length, None, Result, Ok, Err, refl, sym, ap, subst, ◌∙◌, append_assoc, inl, inr, ◌⊎◌}
-use Rattle.std.specs.Prelude.{nat_eq, IfOk}
-use Rattle.std.specs.List.{flat_map, list_all}
-use Rattle.std.specs.Int.{w32, w64, to_be_bytes}
-use Rattle.std.specs.Cmp.Lexicographic.{pointwise, same_text}
-use Rattle.std.proofs.lemmas.Bool.{eqb-true, leb-true}
-use Rattle.std.proofs.lemmas.List.{append-nil, nil_from_length}
+use Rattle.std.proofs.Common.{◌≡◌, ℕ, ◌≤◌, Bool, true, false, cond, List, [], ◌∷◌, length, Option, Some, None, Result, Ok, Err, refl, sym, ap, subst, ◌∙◌, inl, inr, ◌⊎◌, arith}
+use Rattle.std.specs.Prelude.{IfOk, map, All}
+use Rattle.std.specs.List.{list_all}
+use Rattle.std.proofs.lemmas.Bool.{leb-true}
+use Rattle.std.proofs.lemmas.List.{length-map}
+use Rattle.std.proofs.lemmas.List.Elements.{All-from_get_or, All-get_or}
+use Rattle.aft_fields.specs.declared.table.Cell.{Cell}
+use Rattle.aft_fields.specs.declared.table.Cell.TheVariants.{U64, U128, Text, Bytes, Texts}
+use Rattle.aft_fields.specs.declared.table.Kind.TheVariants as kinds
+use Rattle.aft_fields.specs.Kinds.{are_of}
+use Rattle.aft_fields.specs.Order.{ascend}
+use Rattle.aft_fields.specs.Spelling.{row_bytes}
+use Rattle.aft_fields.proofs.Bytes.{IsBytes}
+use Rattle.aft_id.specs.declared.txn_id.TxnId.{TxnId}
 use Rattle.aft_id.specs.TxnId.{IsUuid}
-use Rattle.aft_records.specs.declared.fault.FieldFault.TheVariants.{Tag, Spare}
 use Rattle.aft_records.specs.declared.fault.RecordFault.{RecordFault}
-use Rattle.aft_records.specs.declared.fault.RecordFault.TheVariants.{Field, BadTime, BadKeys, BadKey, LongValue}
+use Rattle.aft_records.specs.declared.fault.RecordFault.TheVariants.{BadTime, BadKeys, BadKey, BadOrigin, BadReads, LongValue}
 use Rattle.aft_records.specs.declared.stored.Commit.{Commit}
+use Rattle.aft_records.specs.declared.stored.Origin.{Origin}
+use Rattle.aft_records.specs.declared.stored.Record.{Record}
 use Rattle.aft_records.specs.declared.stored.Version.{Version}
 use Rattle.aft_records.specs.declared.stored.Marker.{Marker}
 use Rattle.aft_records.specs.declared.stored.Marker.TheVariants.{Full, Done}
-use Rattle.aft_records.specs.Cells.{cell, counted}
-use Rattle.aft_records.specs.Rows.{version_tag, commit_tag, full_tag, done_tag, commit_cells, commit_row, version_row, marker_row}
 use Rattle.aft_records.specs.Gives.{◌>>=◌, Gives}
-use Rattle.aft_records.specs.Limits.{is_time, is_key, is_key_count, ascend, is_value_length}
-use Rattle.aft_records.specs.Place.{Place, start}
-use Rattle.aft_records.specs.Reading.{part_at, id_at, bytes_at, text_at, texts_at, texts_after, u32_at, tag_at, end_at, checked_time, checked_keys, checked_set, checked_key, checked_value, commit_at, ended_commit, commit_behind, version_at, ended_version, ended_id, first_commit_of, version_of, full_of, done_of, marker_of}
-use Rattle.aft_records.specs.Stored.{IsCommit, IsVersion, IsMarker}
+use Rattle.aft_records.specs.Limits.{is_time, is_key, is_key_count, is_origin, is_read_count, is_value_length}
+use Rattle.aft_records.specs.Names.{id_digits}
+use Rattle.aft_records.specs.ReadIds.{ids_of}
+use Rattle.aft_records.specs.Reading.{cells_of, is_tagged, number_in, text_in, bytes_in, texts_in, id_in, checked_time, checked_keys, checked_set, checked_key, checked_value, checked_origin, found_ids, checked_reads, checked_commit, commit_in, checked_record, record_in, checked_version, version_in, done_in, first_commit_of, record_of, second_commit_of, commit_of, version_of, full_of, done_of, marker_of}
+use Rattle.aft_records.specs.Records.{IsSpelledRecordOf}
+use Rattle.aft_records.specs.Rows.{version_tag, commit_tag, record_tag, full_tag, done_tag, version_kinds, commit_kinds, record_kinds, done_kinds, id_cells, commit_cells, commit_row, record_cells, record_row, version_cells, version_row, marker_row}
+use Rattle.aft_records.specs.Stored.{IsWritableId, IsWritableCommit, IsCommit, IsOrigin, IsRecord, IsVersion, IsMarker}
 use Rattle.aft_records.proofs.Steps.{bind_ok, test_ok, ok_is}
-use Rattle.aft_records.proofs.LimitTests.{time_below, key_limits, set_limits}
+use Rattle.aft_records.proofs.LimitTests.{key_limits, set_limits}
 use Rattle.aft_records.proofs.KeyChecks.{all_keys}
-use Rattle.aft_records.proofs.Texts.{texts_ascend}
-use Rattle.aft_records.proofs.Parts.{IsBytes, Takes, Takes-then, part_takes, id_takes, bytes_takes, text_takes, texts_at_takes, tag_takes}
+use Rattle.aft_records.proofs.ReadIds.{AreIds, ids_found, ascend_as}
+use Rattle.aft_records.proofs.RowsFound.{row_is, number_is, text_is, bytes_is, texts_is, next_found, none_left, texts_ascend, id_takes}
 
--- ---- the end
-
-end_is : (place : Place) → end_at place ≡ Ok tt → place.bytes ≡ []
-end_is place e = nil_from_length place.bytes (eqb-true _ _ (test_ok (eqb (length place.bytes) 0) (Field (Spare place.at)) (Ok tt) tt e).0)
-
--- ---- the tables
-
-texts_at_ascend : (field : ℕ) (place : Place) (x : List (List ℕ) × Place) → texts_at field place ≡ Ok x → ascend x.0 ≡ true
-unfolding texts_at
-texts_at_ascend field place x e =
-    let a = bind_ok (u32_at place) (λ n. texts_after field n.0 None n.1) x e in
-    texts_ascend field a.0.0 None a.0.1 x a.2
-
--- a commit's cells that were read
-pub record TakesCommit (before : Place) (c : Commit) (after : Place) : Type 0 where
-  pub takes : Takes before (flat_map cell (commit_cells c)) after
-  pub uuid : IsUuid c.id.uuid
-  pub ascending : ascend c.keys ≡ true
-
-regrouped : (a b c : List ℕ) → (a ++ b) ++ c ≡ a ++ (b ++ (c ++ []))
-regrouped a b c = append_assoc a b c ∙ ap (λ (x : List ℕ). a ++ (b ++ x)) (sym (append-nil c))
-
-commit_takes : (place : Place) (x : Commit × Place) → IsBytes place.bytes → commit_at place ≡ Ok x → TakesCommit place x.0 x.1
-unfolding commit_at
-commit_takes place x fits e =
-    let a = bind_ok (id_at place) (λ id. texts_at 2 id.1 >>= λ keys. Ok (record { id = id.0; keys = keys.0 }, keys.1)) x e in
-    let b = bind_ok (texts_at 2 a.0.1) (λ keys. Ok (record { id = a.0.0; keys = keys.0 }, keys.1)) x a.2 in
-    let t = id_takes place a.0 fits a.1 in
-    let u = texts_at_takes 2 a.0.1 b.0 t.0.rest_fits b.1 in
-    let both = Takes-then place (to_be_bytes w64 a.0.0.time ++ a.0.0.uuid) a.0.1 (to_be_bytes w32 (length b.0.0) ++ flat_map counted b.0.0) b.0.1 t.0 u in
-    let made : Commit × Place = (record { id = a.0.0; keys = b.0.0 }, b.0.1) in
-    subst (λ (y : Commit × Place). TakesCommit place y.0 y.1) (ok_is made x b.2) (record {
-      takes = subst (λ (text : List ℕ). Takes place text b.0.1) (regrouped (to_be_bytes w64 a.0.0.time) a.0.0.uuid (to_be_bytes w32 (length b.0.0) ++ flat_map counted b.0.0)) both;
-      uuid = t.1;
-      ascending = texts_at_ascend 2 a.0.1 b.0 b.1;
-    })
-
--- a version's cells that were read
-pub record TakesVersion (before : Place) (v : Version) (after : Place) : Type 0 where
-  pub takes : Takes before (to_be_bytes w64 v.id.time ++ (v.id.uuid ++ (counted v.key ++ (counted v.value ++ [])))) after
-  pub uuid : IsUuid v.id.uuid
-
-version_takes : (place : Place) (x : Version × Place) → IsBytes place.bytes → version_at place ≡ Ok x → TakesVersion place x.0 x.1
-unfolding version_at
-version_takes place x fits e =
-    let a = bind_ok (id_at place) (λ id. text_at 2 id.1 >>= λ key. bytes_at key.1 >>= λ value. Ok (record { id = id.0; key = key.0; value = value.0 }, value.1)) x e in
-    let b = bind_ok (text_at 2 a.0.1) (λ key. bytes_at key.1 >>= λ value. Ok (record { id = a.0.0; key = key.0; value = value.0 }, value.1)) x a.2 in
-    let c = bind_ok (bytes_at b.0.1) (λ value. Ok (record { id = a.0.0; key = b.0.0; value = value.0 }, value.1)) x b.2 in
-    let t = id_takes place a.0 fits a.1 in
-    let u = text_takes 2 a.0.1 b.0 t.0.rest_fits b.1 in
-    let v = bytes_takes b.0.1 c.0 u.rest_fits c.1 in
-    let two = Takes-then a.0.1 (counted b.0.0) b.0.1 (counted c.0.0) c.0.1 u v in
-    let all = Takes-then place (to_be_bytes w64 a.0.0.time ++ a.0.0.uuid) a.0.1 (counted b.0.0 ++ counted c.0.0) c.0.1 t.0 two in
-    let same : (to_be_bytes w64 a.0.0.time ++ a.0.0.uuid) ++ (counted b.0.0 ++ counted c.0.0) ≡ to_be_bytes w64 a.0.0.time ++ (a.0.0.uuid ++ (counted b.0.0 ++ (counted c.0.0 ++ []))) = append_assoc (to_be_bytes w64 a.0.0.time) a.0.0.uuid (counted b.0.0 ++ counted c.0.0) ∙ ap (λ (y : List ℕ). to_be_bytes w64 a.0.0.time ++ (a.0.0.uuid ++ (counted b.0.0 ++ y))) (sym (append-nil (counted c.0.0))) in
-    let made : Version × Place = (record { id = a.0.0; key = b.0.0; value = c.0.0 }, c.0.1) in
-    subst (λ (y : Version × Place). TakesVersion place y.0 y.1) (ok_is made x c.2) (record {
-      takes = subst (λ (text : List ℕ). Takes place text c.0.1) same all;
-      uuid = t.1;
-    })
-
--- what stands behind a tag, and nothing after it
-behind_tag : (bytes tag text : List ℕ) (after end : Place) → Takes (start bytes) tag after → Takes after text end → end.bytes ≡ [] → bytes ≡ tag ++ text
-behind_tag bytes tag text after end p q nothing =
-    p.parts ∙ ap (λ (y : List ℕ). tag ++ y) (q.parts ∙ ap (λ (y : List ℕ). text ++ y) nothing ∙ append-nil text)
-
--- a commit behind a tag, to the end
-pub record IsRead (bytes tag : List ℕ) (c : Commit) : Type 0 where
-  pub limits : IsCommit c
-  pub spelled : bytes ≡ tag ++ flat_map cell (commit_cells c)
+-- ---- the limits
 
 set_is : (keys x : List (List ℕ)) → checked_set keys ≡ Ok x → (is_key_count (length keys) ≡ true) × (list_all is_key keys ≡ true) × (keys ≡ x)
 unfolding checked_set
@@ -104,90 +45,204 @@ set_is keys x e =
     let g = test_ok (is_key_count (length keys)) BadKeys (checked_keys 0 keys) a.0 a.1 in
     (g.0, all_keys 0 keys g.1, ok_is keys x a.2)
 
-commit_read : (bytes tag : List ℕ) (place : Place) (c : Commit) → IsBytes bytes → Takes (start bytes) tag place → commit_behind place ≡ Ok c → IsRead bytes tag c
-unfolding commit_behind ended_commit
-commit_read bytes tag place c fits tagged e =
-    let a = bind_ok (commit_at place) (λ read. ended_commit read) c e in
-    let b = bind_ok (end_at a.0.1) (λ _. checked_time a.0.0.id.time >>= λ _. checked_set a.0.0.keys >>= λ keys. Ok (record { id = a.0.0.id; keys = keys })) c a.2 in
-    let d = bind_ok (checked_time a.0.0.id.time) (λ _. checked_set a.0.0.keys >>= λ keys. Ok (record { id = a.0.0.id; keys = keys })) c b.2 in
-    let s = bind_ok (checked_set a.0.0.keys) (λ keys. Ok (record { id = a.0.0.id; keys = keys })) c d.2 in
-    let t = commit_takes place a.0 tagged.rest_fits a.1 in
-    let timely = (test_ok (is_time a.0.0.id.time) BadTime (Ok tt) d.0 d.1).0 in
-    let set = set_is a.0.0.keys s.0 s.1 in
-    let same : a.0.0 ≡ c = ap (λ (keys : List (List ℕ)). record { id = a.0.0.id; keys = keys }) set.2 ∙ ok_is (record { id = a.0.0.id; keys = s.0 }) c s.2 in
-    let ended = end_is a.0.1 b.1 in
-    subst (λ (y : Commit). IsRead bytes tag y) same (record {
-      limits = (record { id = record { time = time_below a.0.0.id.time timely; uuid = t.uuid }; keys = set_limits a.0.0.keys set.0 set.1 t.ascending }, timely);
-      spelled = behind_tag bytes tag (flat_map cell (commit_cells a.0.0)) place a.0.1 tagged t.takes ended;
-    })
+-- a commit that keeps the limits is the one of its id and keys
+commit_is : (id : TxnId) (keys : List (List ℕ)) (c : Commit) → IsWritableId id → ascend keys ≡ true → checked_commit id keys ≡ Ok c → IsCommit c × (record { id = id; keys = keys } ≡ c)
+unfolding checked_commit
+commit_is id keys c writable ascending e =
+    let a = bind_ok (checked_time id.time) (λ _. checked_set keys >>= λ set. Ok (record { id = id; keys = set })) c e in
+    let b = bind_ok (checked_set keys) (λ set. Ok (record { id = id; keys = set })) c a.2 in
+    let timely = (test_ok (is_time id.time) BadTime (Ok tt) a.0 a.1).0 in
+    let set = set_is keys b.0 b.1 in
+    let made : Commit = record { id = id; keys = keys } in
+    let same : made ≡ c = ap (λ (k : List (List ℕ)). record { id = id; keys = k }) set.2 ∙ ok_is (record { id = id; keys = b.0 }) c b.2 in
+    (subst IsCommit same (record { id = writable; keys = set_limits keys set.0 set.1 ascending }, timely), same)
 
-pub commit_found : (bytes : List ℕ) (c : Commit) → IsBytes bytes → first_commit_of bytes ≡ Ok c → IsCommit c × (bytes ≡ commit_row c)
+-- ---- cells
+
+commit_takes : (cells : List Cell) (c : Commit) → are_of commit_kinds cells ≡ true → commit_in cells ≡ Ok c → IsCommit c × (cells ≡ commit_cells c)
+unfolding commit_in
+commit_takes cells c h e =
+    let a = bind_ok (id_in cells) (λ id. texts_in id.1 >>= λ keys. checked_commit id.0 keys.0) c e in
+    let b = bind_ok (texts_in a.0.1) (λ keys. checked_commit a.0.0 keys.0) c a.2 in
+    let t = id_takes (kinds.Texts ∷ []) cells a.0 h a.1 in
+    let third = texts_is a.0.1 b.0 b.1 in
+    let k = next_found kinds.Texts [] a.0.1 (Texts b.0.0) b.0.1 third t.others in
+    let i = commit_is a.0.0 b.0.0 c t.writable (texts_ascend b.0.0 k.0) b.2 in
+    (i.0, t.parts ∙ ap (id_cells a.0.0) (third ∙ ap (λ (y : List Cell). Texts b.0.0 ∷ y) (none_left b.0.1 k.1)) ∙ ap commit_cells i.1)
+
+found_is : (texts : List (List ℕ)) (ids : List TxnId) → found_ids (ids_of texts) ≡ Ok ids → AreIds texts ids
+found_is texts ids e = by_ids (ids_of texts) refl e
+  where
+    by_ids : (o : Option (List TxnId)) → ids_of texts ≡ o → found_ids o ≡ Ok ids → AreIds texts ids
+    by_ids (Some x) is e = ids_found texts ids (is ∙ ap Some (ok_is x ids e))
+    by_ids None is e = absurd cc
+
+uuids_of : (ids : List TxnId) → All IsWritableId ids → All (λ id. IsUuid id.uuid) ids
+uuids_of ids all k d lt = (all k d lt).uuid
+
+-- a record that keeps the limits is the one of its cells
+record_is : (id : TxnId) (keys : List (List ℕ)) (node inc : ℕ) (reads : List (List ℕ)) (r : Record) → IsWritableId id → ascend keys ≡ true → ascend reads ≡ true
+    → checked_record id keys node inc reads ≡ Ok r → IsRecord r × (id_cells id (Texts keys ∷ U64 node ∷ U64 inc ∷ Texts reads ∷ []) ≡ record_cells r)
+unfolding checked_record
+record_is id keys node inc reads r writable keys_ascend reads_ascend e =
+    let a = bind_ok (checked_commit id keys) (λ commit. checked_origin node inc (length reads) >>= λ _. checked_reads reads >>= λ ids. Ok (record { commit = commit; origin = record { node = node; inc = inc; reads = ids } })) r e in
+    let b = bind_ok (checked_origin node inc (length reads)) (λ _. checked_reads reads >>= λ ids. Ok (record { commit = a.0; origin = record { node = node; inc = inc; reads = ids } })) r a.2 in
+    let d = bind_ok (checked_reads reads) (λ ids. Ok (record { commit = a.0; origin = record { node = node; inc = inc; reads = ids } })) r b.2 in
+    let commit = commit_is id keys a.0 writable keys_ascend a.1 in
+    let limits = (test_ok (is_origin node inc (length reads)) BadOrigin (Ok tt) b.0 b.1).0 in
+    let few = test_ok (is_read_count (length reads)) BadReads (found_ids (ids_of reads)) d.0 d.1 in
+    let ids = found_is reads d.0 few.1 in
+    let number : length d.0 ≡ length reads = sym (length-map d.0 id_digits) ∙ ap length ids.spelled in
+    let made : Record = record { commit = a.0; origin = record { node = node; inc = inc; reads = d.0 } } in
+    let ascending = sym (ascend_as d.0 ids.writable) ∙ ap ascend ids.spelled ∙ reads_ascend in
+    let cells : id_cells id (Texts keys ∷ U64 node ∷ U64 inc ∷ Texts reads ∷ []) ≡ record_cells made =
+    ap (λ (c : Commit). id_cells c.id (Texts c.keys ∷ U64 node ∷ U64 inc ∷ Texts reads ∷ [])) commit.1
+    ∙ ap (λ (texts : List (List ℕ)). id_cells a.0.id (Texts a.0.keys ∷ U64 node ∷ U64 inc ∷ Texts texts ∷ [])) (sym ids.spelled) in
+    subst (λ (y : Record). IsRecord y × (id_cells id (Texts keys ∷ U64 node ∷ U64 inc ∷ Texts reads ∷ []) ≡ record_cells y)) (ok_is made r d.2) (
+      (
+        record {
+          commit = commit.0.0;
+          origin = record {
+            limits = ap (is_origin node inc) number ∙ limits;
+            reads = record { few = omega (arith, number, leb-true (length reads) 8 few.0); timely = ids.timely; ascending = ascending };
+            uuids = uuids_of d.0 ids.writable;
+          };
+        },
+        commit.0.1,
+      ),
+      cells,
+    )
+
+record_takes : (cells : List Cell) (r : Record) → are_of record_kinds cells ≡ true → record_in cells ≡ Ok r → IsRecord r × (cells ≡ record_cells r)
+unfolding record_in
+record_takes cells r h e =
+    let a = bind_ok (id_in cells) (λ id. texts_in id.1 >>= λ keys. number_in keys.1 >>= λ node. number_in node.1 >>= λ inc. texts_in inc.1 >>= λ reads. checked_record id.0 keys.0 node.0 inc.0 reads.0) r e in
+    let b = bind_ok (texts_in a.0.1) (λ keys. number_in keys.1 >>= λ node. number_in node.1 >>= λ inc. texts_in inc.1 >>= λ reads. checked_record a.0.0 keys.0 node.0 inc.0 reads.0) r a.2 in
+    let c = bind_ok (number_in b.0.1) (λ node. number_in node.1 >>= λ inc. texts_in inc.1 >>= λ reads. checked_record a.0.0 b.0.0 node.0 inc.0 reads.0) r b.2 in
+    let d = bind_ok (number_in c.0.1) (λ inc. texts_in inc.1 >>= λ reads. checked_record a.0.0 b.0.0 c.0.0 inc.0 reads.0) r c.2 in
+    let f = bind_ok (texts_in d.0.1) (λ reads. checked_record a.0.0 b.0.0 c.0.0 d.0.0 reads.0) r d.2 in
+    let t = id_takes (kinds.Texts ∷ kinds.U64 ∷ kinds.U64 ∷ kinds.Texts ∷ []) cells a.0 h a.1 in
+    let keys_are = texts_is a.0.1 b.0 b.1 in
+    let node_is = number_is b.0.1 c.0 c.1 in
+    let inc_is = number_is c.0.1 d.0 d.1 in
+    let reads_are = texts_is d.0.1 f.0 f.1 in
+    let keys = next_found kinds.Texts (kinds.U64 ∷ kinds.U64 ∷ kinds.Texts ∷ []) a.0.1 (Texts b.0.0) b.0.1 keys_are t.others in
+    let node = next_found kinds.U64 (kinds.U64 ∷ kinds.Texts ∷ []) b.0.1 (U64 c.0.0) c.0.1 node_is keys.1 in
+    let inc = next_found kinds.U64 (kinds.Texts ∷ []) c.0.1 (U64 d.0.0) d.0.1 inc_is node.1 in
+    let reads = next_found kinds.Texts [] d.0.1 (Texts f.0.0) f.0.1 reads_are inc.1 in
+    let i = record_is a.0.0 b.0.0 c.0.0 d.0.0 f.0.0 r t.writable (texts_ascend b.0.0 keys.0) (texts_ascend f.0.0 reads.0) f.2 in
+    let last : d.0.1 ≡ Texts f.0.0 ∷ [] = reads_are ∙ ap (λ (y : List Cell). Texts f.0.0 ∷ y) (none_left f.0.1 reads.1) in
+    let others : a.0.1 ≡ Texts b.0.0 ∷ U64 c.0.0 ∷ U64 d.0.0 ∷ Texts f.0.0 ∷ [] =
+    keys_are ∙ ap (λ (y : List Cell). Texts b.0.0 ∷ y) (node_is ∙ ap (λ (y : List Cell). U64 c.0.0 ∷ y) (inc_is ∙ ap (λ (y : List Cell). U64 d.0.0 ∷ y) last)) in
+    (i.0, t.parts ∙ ap (id_cells a.0.0) others ∙ i.1)
+
+version_is : (id : TxnId) (key value : List ℕ) (v : Version) → IsWritableId id → checked_version id key value ≡ Ok v → IsVersion v × (record { id = id; key = key; value = value } ≡ v)
+unfolding checked_version
+version_is id key value v writable e =
+    let a = bind_ok (checked_time id.time) (λ _. checked_key key >>= λ _. checked_value value >>= λ _. Ok (record { id = id; key = key; value = value })) v e in
+    let b = bind_ok (checked_key key) (λ _. checked_value value >>= λ _. Ok (record { id = id; key = key; value = value })) v a.2 in
+    let c = bind_ok (checked_value value) (λ _. Ok (record { id = id; key = key; value = value })) v b.2 in
+    let timely = (test_ok (is_time id.time) BadTime (Ok tt) a.0 a.1).0 in
+    let of_key = key_limits key (test_ok (is_key key) (BadKey 0) (Ok tt) b.0 b.1).0 in
+    let short = leb-true (length value) 4096 (test_ok (is_value_length (length value)) LongValue (Ok tt) c.0 c.1).0 in
+    let made : Version = record { id = id; key = key; value = value } in
+    let same : made ≡ v = ok_is made v c.2 in
+    (subst IsVersion same (record { id = writable; key = of_key; value = short }, timely), same)
+
+version_takes : (cells : List Cell) (v : Version) → are_of version_kinds cells ≡ true → version_in cells ≡ Ok v → IsVersion v × (cells ≡ version_cells v)
+unfolding version_in
+version_takes cells v h e =
+    let a = bind_ok (id_in cells) (λ id. text_in id.1 >>= λ key. bytes_in key.1 >>= λ value. checked_version id.0 key.0 value.0) v e in
+    let b = bind_ok (text_in a.0.1) (λ key. bytes_in key.1 >>= λ value. checked_version a.0.0 key.0 value.0) v a.2 in
+    let c = bind_ok (bytes_in b.0.1) (λ value. checked_version a.0.0 b.0.0 value.0) v b.2 in
+    let t = id_takes (kinds.Text ∷ kinds.Bytes ∷ []) cells a.0 h a.1 in
+    let key_is = text_is a.0.1 b.0 b.1 in
+    let value_is = bytes_is b.0.1 c.0 c.1 in
+    let key = next_found kinds.Text (kinds.Bytes ∷ []) a.0.1 (Text b.0.0) b.0.1 key_is t.others in
+    let value = next_found kinds.Bytes [] b.0.1 (Bytes c.0.0) c.0.1 value_is key.1 in
+    let i = version_is a.0.0 b.0.0 c.0.0 v t.writable c.2 in
+    let last : b.0.1 ≡ Bytes c.0.0 ∷ [] = value_is ∙ ap (λ (y : List Cell). Bytes c.0.0 ∷ y) (none_left c.0.1 value.1) in
+    (i.0, t.parts ∙ ap (id_cells a.0.0) (key_is ∙ ap (λ (y : List Cell). Text b.0.0 ∷ y) last) ∙ ap version_cells i.1)
+
+done_takes : (cells : List Cell) (m : Marker) → are_of done_kinds cells ≡ true → done_in cells ≡ Ok m → IsMarker m × (row_bytes done_tag cells ≡ marker_row m)
+unfolding done_in
+done_takes cells m h e =
+    let a = bind_ok (id_in cells) (λ id. checked_time id.0.time >>= λ _. Ok (Done id.0)) m e in
+    let b = bind_ok (checked_time a.0.0.time) (λ _. Ok (Done a.0.0)) m a.2 in
+    let t = id_takes [] cells a.0 h a.1 in
+    let timely = (test_ok (is_time a.0.0.time) BadTime (Ok tt) b.0 b.1).0 in
+    let parts : cells ≡ id_cells a.0.0 [] = t.parts ∙ ap (id_cells a.0.0) (none_left a.0.1 t.others) in
+    subst (λ (y : Marker). IsMarker y × (row_bytes done_tag cells ≡ marker_row y)) (ok_is (Done a.0.0) m b.2) ((t.writable, timely), ap (row_bytes done_tag) parts)
+
+-- ---- bytes
+
+first_commit_found : (bytes : List ℕ) (c : Commit) → IsBytes bytes → first_commit_of bytes ≡ Ok c → IsCommit c × (bytes ≡ commit_row c)
 unfolding first_commit_of
-commit_found bytes c fits e =
-    let a = bind_ok (tag_at commit_tag (start bytes)) (λ place. commit_behind place) c e in
-    let r = commit_read bytes commit_tag a.0 c fits (tag_takes commit_tag (start bytes) a.0 fits a.1) a.2 in
-    (r.limits, r.spelled)
+first_commit_found bytes c fits e =
+    let a = bind_ok (cells_of commit_tag commit_kinds bytes) (λ cells. commit_in cells) c e in
+    let row = row_is commit_tag commit_kinds bytes a.0 fits a.1 in
+    let t = commit_takes a.0 c row.0 a.2 in
+    (t.0, row.1 ∙ ap (row_bytes commit_tag) t.1)
 
-value_short : (value : List ℕ) → is_value_length (length value) ≡ true → length value ≤ 4096
-value_short value h = leb-true (length value) 4096 h
+pub record_found : (bytes : List ℕ) (r : Record) → IsBytes bytes → record_of bytes ≡ Ok r → IsRecord r × (bytes ≡ record_row r)
+unfolding record_of
+record_found bytes r fits e =
+    let a = bind_ok (cells_of record_tag record_kinds bytes) (λ cells. record_in cells) r e in
+    let row = row_is record_tag record_kinds bytes a.0 fits a.1 in
+    let t = record_takes a.0 r row.0 a.2 in
+    (t.0, row.1 ∙ ap (row_bytes record_tag) t.1)
 
-pub version_found : (bytes : List ℕ) (v : Version) → IsBytes bytes → version_of bytes ≡ Ok v → IsVersion v × (bytes ≡ version_row v)
-unfolding version_of ended_version
-version_found bytes v fits e =
-    let a = bind_ok (tag_at version_tag (start bytes)) (λ place. version_at place >>= λ read. ended_version read) v e in
-    let b = bind_ok (version_at a.0) (λ read. ended_version read) v a.2 in
-    let read = b.0.0 in
-    let c = bind_ok (end_at b.0.1) (λ _. checked_time b.0.0.id.time >>= λ _. checked_key b.0.0.key >>= λ _. checked_value b.0.0.value >>= λ _. Ok b.0.0) v b.2 in
-    let d = bind_ok (checked_time b.0.0.id.time) (λ _. checked_key b.0.0.key >>= λ _. checked_value b.0.0.value >>= λ _. Ok b.0.0) v c.2 in
-    let k = bind_ok (checked_key b.0.0.key) (λ _. checked_value b.0.0.value >>= λ _. Ok b.0.0) v d.2 in
-    let l = bind_ok (checked_value b.0.0.value) (λ _. Ok b.0.0) v k.2 in
-    let tagged = tag_takes version_tag (start bytes) a.0 fits a.1 in
-    let t = version_takes a.0 b.0 tagged.rest_fits b.1 in
-    let timely = (test_ok (is_time b.0.0.id.time) BadTime (Ok tt) d.0 d.1).0 in
-    let key = key_limits b.0.0.key (test_ok (is_key b.0.0.key) (BadKey 0) (Ok tt) k.0 k.1).0 in
-    let value = value_short b.0.0.value (test_ok (is_value_length (length b.0.0.value)) LongValue (Ok tt) l.0 l.1).0 in
-    subst (λ (y : Version). IsVersion y × (bytes ≡ version_row y)) (ok_is b.0.0 v l.2)
-    ((record { id = record { time = time_below b.0.0.id.time timely; uuid = t.uuid }; key = key; value = value }, timely), behind_tag bytes version_tag (to_be_bytes w64 b.0.0.id.time ++ (b.0.0.id.uuid ++ (counted b.0.0.key ++ (counted b.0.0.value ++ [])))) a.0 b.0.1 tagged t.takes (end_is b.0.1 c.1))
-
-full_found : (bytes : List ℕ) (place : Place) (m : Marker) → IsBytes bytes → Takes (start bytes) full_tag place → full_of place ≡ Ok m → IsMarker m × (bytes ≡ marker_row m)
-unfolding full_of
-full_found bytes place m fits tagged e =
-    let a = bind_ok (commit_behind place) (λ commit. Ok (Full commit)) m e in
-    let r = commit_read bytes full_tag place a.0 fits tagged a.1 in
-    subst (λ (y : Marker). IsMarker y × (bytes ≡ marker_row y)) (ok_is (Full a.0) m a.2) (r.limits, r.spelled)
-
-done_found : (bytes : List ℕ) (place : Place) (m : Marker) → IsBytes bytes → Takes (start bytes) done_tag place → done_of place ≡ Ok m → IsMarker m × (bytes ≡ marker_row m)
-unfolding done_of ended_id
-done_found bytes place m fits tagged e =
-    let a = bind_ok (id_at place) (λ read. ended_id read >>= λ id. Ok (Done id)) m e in
-    let b = bind_ok (ended_id a.0) (λ id. Ok (Done id)) m a.2 in
-    let c = bind_ok (end_at a.0.1) (λ _. checked_time a.0.0.time >>= λ _. Ok a.0.0) b.0 b.1 in
-    let d = bind_ok (checked_time a.0.0.time) (λ _. Ok a.0.0) b.0 c.2 in
-    let t = id_takes place a.0 tagged.rest_fits a.1 in
-    let timely = (test_ok (is_time a.0.0.time) BadTime (Ok tt) d.0 d.1).0 in
-    let text = to_be_bytes w64 a.0.0.time ++ a.0.0.uuid in
-    let spelled : bytes ≡ done_tag ++ (to_be_bytes w64 a.0.0.time ++ (a.0.0.uuid ++ [])) = behind_tag bytes done_tag text place a.0.1 tagged t.0 (end_is a.0.1 c.1) ∙ ap (λ (y : List ℕ). done_tag ++ (to_be_bytes w64 a.0.0.time ++ y)) (sym (append-nil a.0.0.uuid)) in
-    let same : Done a.0.0 ≡ m = ap Done (ok_is a.0.0 b.0 d.2) ∙ ok_is (Done b.0) m b.2 in
-    subst (λ (y : Marker). IsMarker y × (bytes ≡ marker_row y)) same ((record { time = time_below a.0.0.time timely; uuid = t.1 }, timely), spelled)
-
--- a tag that was found
-tagged_by : (tag : List ℕ) (bytes : List ℕ) (x : List ℕ × Place) → IsBytes bytes → part_at 3 (start bytes) ≡ Ok x → pointwise nat_eq x.0 tag ≡ true → Takes (start bytes) tag x.1
-tagged_by tag bytes x fits e h = subst (λ (y : List ℕ). Takes (start bytes) y x.1) (same_text x.0 tag (sym h)) (part_takes 3 (start bytes) x fits e).takes
+second_commit_found : (bytes : List ℕ) (c : Commit) → IsBytes bytes → second_commit_of bytes ≡ Ok c → IsCommit c × IsSpelledRecordOf bytes c
+unfolding second_commit_of
+second_commit_found bytes c fits e =
+    let a = bind_ok (record_of bytes) (λ whole. Ok whole.commit) c e in
+    let t = record_found bytes a.0 fits a.1 in
+    subst (λ (y : Commit). IsCommit y × IsSpelledRecordOf bytes y) (ok_is a.0.commit c a.2) ((t.0.0.commit, t.0.1), inr (a.0.origin, t.0.0.origin, t.1))
 
 -- which of two ways a test went
 chosen : {A : Type 0} (b : Bool) (x y z : A) → cond b x y ≡ z → ((b ≡ true) × (x ≡ z)) ⊎ ((b ≡ false) × (y ≡ z))
 chosen true x y z e = inl (refl, e)
 chosen false x y z e = inr (refl, e)
 
+pub commit_found : (bytes : List ℕ) (c : Commit) → IsBytes bytes → commit_of bytes ≡ Ok c → IsCommit c × IsSpelledRecordOf bytes c
+unfolding commit_of
+commit_found bytes c fits e =
+    elim (chosen (is_tagged record_tag bytes) (second_commit_of bytes) (first_commit_of bytes) (Ok c) e) [
+      | inl second ↦ second_commit_found bytes c fits second.1
+      | inr first ↦ (let t = first_commit_found bytes c fits first.1 in (t.0, inl t.1))
+    ]
+
+pub version_found : (bytes : List ℕ) (v : Version) → IsBytes bytes → version_of bytes ≡ Ok v → IsVersion v × (bytes ≡ version_row v)
+unfolding version_of
+version_found bytes v fits e =
+    let a = bind_ok (cells_of version_tag version_kinds bytes) (λ cells. version_in cells) v e in
+    let row = row_is version_tag version_kinds bytes a.0 fits a.1 in
+    let t = version_takes a.0 v row.0 a.2 in
+    (t.0, row.1 ∙ ap (row_bytes version_tag) t.1)
+
+full_found : (bytes : List ℕ) (m : Marker) → IsBytes bytes → full_of bytes ≡ Ok m → IsMarker m × (bytes ≡ marker_row m)
+unfolding full_of
+full_found bytes m fits e =
+    let a = bind_ok (cells_of full_tag commit_kinds bytes) (λ cells. commit_in cells >>= λ commit. Ok (Full commit)) m e in
+    let b = bind_ok (commit_in a.0) (λ commit. Ok (Full commit)) m a.2 in
+    let row = row_is full_tag commit_kinds bytes a.0 fits a.1 in
+    let t = commit_takes a.0 b.0 row.0 b.1 in
+    subst (λ (y : Marker). IsMarker y × (bytes ≡ marker_row y)) (ok_is (Full b.0) m b.2) (t.0, row.1 ∙ ap (row_bytes full_tag) t.1)
+
+done_found : (bytes : List ℕ) (m : Marker) → IsBytes bytes → done_of bytes ≡ Ok m → IsMarker m × (bytes ≡ marker_row m)
+unfolding done_of
+done_found bytes m fits e =
+    let a = bind_ok (cells_of done_tag done_kinds bytes) (λ cells. done_in cells) m e in
+    let row = row_is done_tag done_kinds bytes a.0 fits a.1 in
+    let t = done_takes a.0 m row.0 a.2 in
+    (t.0, row.1 ∙ t.1)
+
 pub marker_found : (bytes : List ℕ) (m : Marker) → IsBytes bytes → marker_of bytes ≡ Ok m → IsMarker m × (bytes ≡ marker_row m)
 unfolding marker_of
 marker_found bytes m fits e =
-    let a = bind_ok (part_at 3 (start bytes)) (λ tag. cond (pointwise nat_eq tag.0 full_tag) (full_of tag.1) (cond (pointwise nat_eq tag.0 done_tag) (done_of tag.1) (Err (Field Tag)))) m e in
-    elim (chosen (pointwise nat_eq a.0.0 full_tag) (full_of a.0.1) (cond (pointwise nat_eq a.0.0 done_tag) (done_of a.0.1) (Err (Field Tag))) (Ok m) a.2) [
-      | inl full ↦ full_found bytes a.0.1 m fits (tagged_by full_tag bytes a.0 fits a.1 full.0) full.1
-      | inr other ↦
-          let g = test_ok (pointwise nat_eq a.0.0 done_tag) (Field Tag) (done_of a.0.1) m other.1 in
-          done_found bytes a.0.1 m fits (tagged_by done_tag bytes a.0 fits a.1 g.0) g.1
+    elim (chosen (is_tagged done_tag bytes) (done_of bytes) (full_of bytes) (Ok m) e) [
+      | inl done ↦ done_found bytes m fits done.1
+      | inr full ↦ full_found bytes m fits full.1
     ]
 
 -- what a call gave is what the reading found

@@ -2,7 +2,8 @@
 use Rattle.std.proofs.Common.{◌≡◌, ℕ, ◌^◌, ◌<◌, Bool, true, ◌&&◌, leb, ltb, List, length, refl, arith}
 use Rattle.std.specs.List.{list_all}
 use Rattle.std.proofs.lemmas.Bool.{and_parts, leb-true, ltb-true, le-leb}
-use Rattle.aft_records.specs.Limits.{is_time, is_key_byte, is_key, IsKey, is_key_count, AreKeys, ascend}
+use Rattle.aft_records.specs.Limits.{is_time, is_key_byte, is_key, IsKey, is_key_count, AreKeys}
+use Rattle.aft_fields.specs.Order.{ascend}
 
 both : (a b : Bool) → a ≡ true → b ≡ true → (a && b) ≡ true
 both a b p q = rw (p, q) refl

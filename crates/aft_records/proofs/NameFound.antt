@@ -54,7 +54,7 @@ split_is c (b ∷ bytes) p e =
       way false x y z e = inr (refl, e)
 
 -- both parts of a text with no upper case letter have none
-abbrev IsLow : List ℕ → Type 0
+abbrev pub IsLow : List ℕ → Type 0
 IsLow text = list_any is_upper text ≡ false
 
 low_parts : (a : List ℕ) (c : ℕ) (b : List ℕ) → IsLow (a ++ (c ∷ b)) → IsLow a × IsLow b
@@ -90,12 +90,12 @@ key_found text key low e =
     subst (λ (k : List ℕ). (encode_lower k ≡ text) × IsKey k) (some_is a.0 key g.1) (s.spelled, key_limits a.0 g.0)
 
 -- an id that was read
-record IdIs (text : List ℕ) (id : TxnId) : Type 0 where
-  spelled : text ≡ id_digits id
-  writable : IsWritableId id
-  timely : IsTime id.time
+pub record IdIs (text : List ℕ) (id : TxnId) : Type 0 where
+  pub spelled : text ≡ id_digits id
+  pub writable : IsWritableId id
+  pub timely : IsTime id.time
 
-id_found : (text : List ℕ) (id : TxnId) → IsLow text → id_of text ≡ Some id → IdIs text id
+pub id_found : (text : List ℕ) (id : TxnId) → IsLow text → id_of text ≡ Some id → IdIs text id
 unfolding id_of
 id_found text id low e =
     let a = some_of (split_once 45 text) (λ parts. time_of parts.0 >>= λ time. uuid_of parts.1 >>= λ uuid. Some (record { time = time; uuid = uuid })) id e in

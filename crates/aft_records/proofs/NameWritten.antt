@@ -23,7 +23,7 @@ use Rattle.aft_records.proofs.Digits.{digits_low, digits_lack, no_dash, no_slash
 
 -- ---- what is bytes
 
-uuid_bytes : (uuid : List ℕ) → IsUuid uuid → IsBytes uuid
+pub uuid_bytes : (uuid : List ℕ) → IsUuid uuid → IsBytes uuid
 uuid_bytes uuid is i =
     elim (cases_lt i (length uuid)) [
       | inl lt ↦ All-get_or (λ b. b < 256) uuid i 0 lt is.1
@@ -56,7 +56,7 @@ low_bytes a b c d e f g h =
     (low_byte c (d % 256 ∷ e % 256 ∷ f % 256 ∷ g % 256 ∷ h % 256 ∷ []) (low_byte d (e % 256 ∷ f % 256 ∷ g % 256 ∷ h % 256 ∷ [])
     (low_byte e (f % 256 ∷ g % 256 ∷ h % 256 ∷ []) (low_byte f (g % 256 ∷ h % 256 ∷ []) (low_byte g (h % 256 ∷ []) (low_byte h [] IsBytes-nil)))))))
 
-time_bytes : (time : ℕ) → IsBytes (to_be_bytes w64 time)
+pub time_bytes : (time : ℕ) → IsBytes (to_be_bytes w64 time)
 time_bytes time = low_bytes (time / 2 ^ 56) (time / 2 ^ 48) (time / 2 ^ 40) (time / 2 ^ 32) (time / 2 ^ 24) (time / 2 ^ 16) (time / 2 ^ 8) time
 
 -- ---- what was written is read
@@ -72,7 +72,7 @@ key_again : (key : List ℕ) → IsKey key → key_of (encode_lower key) ≡ Som
 unfolding key_of
 key_again key is = rw (decode_of-encode_lower key (key_bytes key is), key_passes key is) refl
 
-id_again : (id : TxnId) → IsWritableId id → IsTime id.time → id_of (id_digits id) ≡ Some id
+pub id_again : (id : TxnId) → IsWritableId id → IsTime id.time → id_of (id_digits id) ≡ Some id
 unfolding id_of
 id_again id is timely =
     let parts = split_once-at 45 (encode_lower (to_be_bytes w64 id.time)) (encode_lower id.uuid) (digits_lack 45 no_dash (to_be_bytes w64 id.time) (time_bytes id.time)) in
@@ -85,7 +85,7 @@ IsLow text = list_any is_upper text ≡ false
 low_append : (a b : List ℕ) → IsLow a → IsLow b → IsLow (a ++ b)
 low_append a b la lb = list_any-append is_upper a b ∙ or_from (list_any is_upper a) (list_any is_upper b) la lb
 
-id_low : (id : TxnId) → IsWritableId id → IsLow (id_digits id)
+pub id_low : (id : TxnId) → IsWritableId id → IsLow (id_digits id)
 id_low id is =
     low_append (encode_lower (to_be_bytes w64 id.time)) (codes "-" ++ encode_lower id.uuid) (digits_low (to_be_bytes w64 id.time) (time_bytes id.time))
     (low_append (codes "-") (encode_lower id.uuid) refl (digits_low id.uuid (uuid_bytes id.uuid is.uuid)))
@@ -134,7 +134,7 @@ times_apart s t x y ls lt e =
     let same = same_digits (to_be_bytes w64 s) (to_be_bytes w64 t) (time_bytes s) (time_bytes t) p.0 in
     (sym (from_be_bytes-to_be_bytes_8 s ls) ∙ ap (from_be_bytes w64) same ∙ from_be_bytes-to_be_bytes_8 t lt, p.1)
 
-ids_apart : (i j : TxnId) (x y : List ℕ) → IsWritableId i → IsWritableId j → id_digits i ++ x ≡ id_digits j ++ y → (i ≡ j) × (x ≡ y)
+pub ids_apart : (i j : TxnId) (x y : List ℕ) → IsWritableId i → IsWritableId j → id_digits i ++ x ≡ id_digits j ++ y → (i ≡ j) × (x ≡ y)
 ids_apart i j x y wi wj e =
     let whole : encode_lower (to_be_bytes w64 i.time) ++ (45 ∷ (encode_lower i.uuid ++ x)) ≡ encode_lower (to_be_bytes w64 j.time) ++ (45 ∷ (encode_lower j.uuid ++ y)) =
     sym (append_assoc (encode_lower (to_be_bytes w64 i.time)) (45 ∷ encode_lower i.uuid) x) ∙ e ∙ append_assoc (encode_lower (to_be_bytes w64 j.time)) (45 ∷ encode_lower j.uuid) y in

@@ -1,6 +1,6 @@
 -- Words on commits: which are the same, those that are known, and the newest of a key.
 use Rattle.std.specs.Prelude.{ℕ, ◌&&◌, ◌||◌, Bool, true, false, not, List, [], ◌∷◌, filter, map, Option, Some, None, if◌then◌else◌}
-use Rattle.std.specs.List.{list_any, fold}
+use Rattle.std.specs.List.{list_all, list_any, fold}
 use Rattle.std.specs.Cmp.Lexicographic.{pointwise}
 use Rattle.std.specs.Str.{bytes_eq}
 use Rattle.aft_id.specs.TxnId.{id_lt, same_id}
@@ -39,6 +39,10 @@ abbrev pub with_id_order : List Commit → Commit → List Commit
 with_id_order [] c = c ∷ []
 with_id_order (other ∷ commits) c = if id_lt c.id other.id then c ∷ other ∷ commits else other ∷ with_id_order commits c
 
+-- the same, unless its id is there
+abbrev pub with_id_once : List Commit → Commit → List Commit
+with_id_once commits c = if has_id c.id commits then commits else with_id_order commits c
+
 -- commits in the order of their ids
 abbrev pub in_id_order : List Commit → List Commit
 in_id_order commits = fold with_id_order [] commits
@@ -54,6 +58,15 @@ without_ids ids known = filter (λ c. not (is_listed c.id ids)) known
 -- what is known at first, of commits that are shown: those that the shown ones don't supersede
 abbrev pub first_known : List Commit → List Commit
 first_known commits = fold with_commit [] (filter (λ c. not (is_superseded c commits)) commits)
+
+-- whether ids ascend strictly: each is below all that are behind it
+abbrev pub is_ascending : List TxnId → Bool
+is_ascending [] = true
+is_ascending (id ∷ ids) = list_all (id_lt id) ids && is_ascending ids
+
+-- whether commits ascend strictly by id, so that each id stands once
+abbrev pub ids_ascend : List Commit → Bool
+ids_ascend commits = is_ascending (ids_of commits)
 
 -- ---- the newest of a key
 

@@ -1,9 +1,8 @@
+pub mod FieldFaults
 pub mod Limits
 pub mod Gives
-pub mod Cells
 pub mod Names
 pub mod Rows
-pub mod Place
 pub mod NameReading
 pub mod ReadIds
 pub mod Reading

@@ -1,8 +1,7 @@
 -- The limits of keys, write sets, values and times.
-use Rattle.std.specs.Prelude.{ℕ, ◌≤◌, ◌^◌, ◌==◌, Bool, true, ◌&&◌, if◌then◌else◌, nat_le, nat_lt, List, [], ◌∷◌, length, Option, Some, None, IsTrue}
+use Rattle.std.specs.Prelude.{ℕ, ◌≤◌, ◌^◌, ◌==◌, Bool, ◌&&◌, if◌then◌else◌, nat_le, nat_lt, List, length, IsTrue}
 use Rattle.std.specs.List.{list_all}
-use Rattle.std.specs.Ordering.{is_lt, nat_cmp}
-use Rattle.std.specs.Cmp.Lexicographic.{slice_cmp}
+use Rattle.aft_fields.specs.Order.{ascend}
 
 -- whether a time is 1 to 2^48 - 1 milliseconds
 abbrev pub is_time : ℕ → Bool
@@ -25,20 +24,6 @@ pub record IsKey (bytes : List ℕ) : Type 0 where
   pub some : 1 ≤ length bytes
   pub short : length bytes ≤ 64
   pub graphic : IsTrue (list_all is_key_byte bytes)
-
--- whether a text may follow the one before it, if any: it is greater in byte order
-abbrev pub follows : Option (List ℕ) → List ℕ → Bool
-follows None text = true
-follows (Some before) text = is_lt (slice_cmp nat_cmp before text)
-
--- whether texts ascend strictly from the one before them, if any
-abbrev pub ascend_after : Option (List ℕ) → List (List ℕ) → Bool
-ascend_after before [] = true
-ascend_after before (text ∷ texts) = follows before text && ascend_after (Some text) texts
-
--- whether texts ascend strictly
-abbrev pub ascend : List (List ℕ) → Bool
-ascend texts = ascend_after None texts
 
 -- whether a write set may have so many keys: 1 to 32
 abbrev pub is_key_count : ℕ → Bool

@@ -1,7 +1,7 @@
 -- Which ids, commits, versions, markers and names can be written, and which keep the limits besides.
-use Rattle.std.specs.Prelude.{ℕ, ◌<◌, ◌≤◌, ◌^◌, List, All, map, length, IsTrue, Result, Ok, Err, if◌then◌else◌}
+use Rattle.std.specs.Prelude.{ℕ, ◌<◌, ◌≤◌, ◌^◌, Bool, true, ◌&&◌, Option, Some, None, List, [], ◌∷◌, All, length, IsTrue, Result, Ok, Err, if◌then◌else◌}
 use Rattle.aft_id.specs.declared.txn_id.TxnId.{TxnId}
-use Rattle.aft_id.specs.TxnId.{IsUuid}
+use Rattle.aft_id.specs.TxnId.{IsUuid, id_lt}
 use Rattle.aft_records.specs.declared.fault.RecordFault.{RecordFault}
 use Rattle.aft_records.specs.declared.fault.RecordFault.TheVariants.{BadTime}
 use Rattle.aft_records.specs.declared.stored.Commit.{Commit}
@@ -12,8 +12,7 @@ use Rattle.aft_records.specs.declared.stored.Marker.{Marker}
 use Rattle.aft_records.specs.declared.stored.Marker.TheVariants.{Full, Done}
 use Rattle.aft_records.specs.declared.name.Name.{Name}
 use Rattle.aft_records.specs.declared.name.Name.TheVariants.{VersionOf, CommitOf, RetiredOf}
-use Rattle.aft_records.specs.Limits.{is_time, IsTime, IsKey, ascend, AreKeys, is_origin}
-use Rattle.aft_records.specs.Names.{id_digits}
+use Rattle.aft_records.specs.Limits.{is_time, IsTime, IsKey, AreKeys, is_origin}
 
 -- an id of any time
 pub record IsWritableId (id : TxnId) : Type 0 where
@@ -25,21 +24,32 @@ pub record IsWritableCommit (c : Commit) : Type 0 where
   pub id : IsWritableId c.id
   pub keys : AreKeys c.keys
 
--- the reads of a record: at most 8 ids, ascending strictly, of any time
+-- whether ids ascend strictly from the one before them, if any
+abbrev pub ids_ascend_after : Option TxnId → List TxnId → Bool
+ids_ascend_after before [] = true
+ids_ascend_after None (id ∷ ids) = ids_ascend_after (Some id) ids
+ids_ascend_after (Some before) (id ∷ ids) = id_lt before id && ids_ascend_after (Some id) ids
+
+-- whether ids ascend strictly
+abbrev pub ids_ascend : List TxnId → Bool
+ids_ascend ids = ids_ascend_after None ids
+
+-- the reads of a record: at most 8 ids within the limit of times, ascending strictly
 pub record AreReads (reads : List TxnId) : Type 0 where
   pub few : length reads ≤ 8
-  pub each : All IsWritableId reads
-  pub ascending : IsTrue (ascend (map id_digits reads))
+  pub timely : All (λ id. IsTime id.time) reads
+  pub ascending : IsTrue (ids_ascend reads)
 
--- an origin whose reads have any time
-pub record IsWritableOrigin (o : Origin) : Type 0 where
+-- an origin
+pub record IsOrigin (o : Origin) : Type 0 where
   pub limits : IsTrue (is_origin o.node o.inc (length o.reads))
   pub reads : AreReads o.reads
+  pub uuids : All (λ id. IsUuid id.uuid) o.reads
 
 -- a record of any time
 pub record IsWritableRecord (r : Record) : Type 0 where
   pub commit : IsWritableCommit r.commit
-  pub origin : IsWritableOrigin r.origin
+  pub origin : IsOrigin r.origin
 
 -- a version of any time
 pub record IsWritableVersion (v : Version) : Type 0 where
@@ -67,7 +77,7 @@ IsCommit c = IsWritableCommit c × IsTime c.id.time
 
 -- a record within the limits
 abbrev pub IsRecord : Record → Type 0
-IsRecord r = IsWritableRecord r × IsTime r.commit.id.time × All (λ id. IsTime id.time) r.origin.reads
+IsRecord r = IsWritableRecord r × IsTime r.commit.id.time
 
 -- a version within the limits
 abbrev pub IsVersion : Version → Type 0

@@ -2,32 +2,11 @@
 
 ghost use Rattle.std.specs.Prelude.{◌≡◌};
 ghost use Rattle.aft_records.specs.declared.fault.RecordFault.TheVariants.{Memory};
+ghost use Rattle.aft_records.specs.FieldFaults.{fault_of};
 
+use aft_fields::FieldFault;
 use std::alloc::{AllocError, AllocFailed};
 use thiserror::Error;
-
-/// What is wrong with the layout of a row: the first fault from left to right.
-#[derive(Clone, Copy, Debug, PartialEq, Eq, Error)]
-pub enum FieldFault {
-    /// The part that begins at this offset, in bytes, is not wholly there.
-    #[error("cut short at offset {at}")]
-    Short { at: u64 },
-    /// The first three bytes are not the table's tag.
-    #[error("another tag")]
-    Tag,
-    /// A text of this field, counted from 0, is not UTF-8.
-    #[error("field {field} is not UTF-8")]
-    NotUtf8 { field: u32 },
-    /// A text of this field, counted from 0, is not greater than the one before it.
-    #[error("the texts of field {field} do not ascend")]
-    Unsorted { field: u32 },
-    /// The row ends at this offset, in bytes, and more bytes follow.
-    #[error("bytes after the end at offset {at}")]
-    Spare { at: u64 },
-    /// Memory ran out. No call of this crate gives it.
-    #[error("out of memory")]
-    Memory,
-}
 
 /// Why a stored value could not be made or read.
 #[derive(Clone, Copy, Debug, PartialEq, Eq, Error)]
@@ -72,6 +51,17 @@ impl<T: Drop> From<AllocFailed<T>> for RecordFault {
 
     fn from(_e: AllocFailed<T>) -> RecordFault {
         RecordFault::Memory
+    }
+}
+
+impl From<FieldFault> for RecordFault {
+    ghost from_gives = { λ fault e. e ≡ fault_of fault };
+
+    fn from(fault: FieldFault) -> RecordFault {
+        match fault {
+            FieldFault::Memory => RecordFault::Memory,
+            fault => RecordFault::Field(fault),
+        }
     }
 }
 

@@ -7,10 +7,12 @@ ghost use Rattle.std.specs.Cmp.Lexicographic.{pointwise, nat_list_eq_equiv, list
 ghost use Rattle.std.specs.Cmp;
 ghost use Rattle.aft_records.specs.Gives.{Gives};
 ghost use Rattle.aft_records.specs.Reading.{checked_keys, checked_set};
-ghost use Rattle.aft_records.specs.Limits.{is_key, AreKeys, follows, ascend};
+ghost use Rattle.aft_fields.specs.Order.{follows, ascend};
+ghost use Rattle.aft_records.specs.Limits.{is_key, AreKeys};
 
-use crate::fault::{FieldFault, RecordFault};
+use crate::fault::RecordFault;
 use crate::key::{Key, is_key};
+use aft_fields::{FieldFault, Raw};
 use aft_id::{Bytes, List};
 use std::alloc::{AllocError, Global};
 use std::marker::Model;
@@ -36,7 +38,7 @@ impl Model for Keys {
 }
 
 /// Whether a text may follow the one before it, if any: it is greater in byte order.
-pub(crate) fn follows(before: Option<&[u8]>, text: &[u8]) -> bool
+fn follows(before: Option<&[u8]>, text: &[u8]) -> bool
     ensures { result ≡ follows (option_copied before.entry) text.now }
 {
     match before {
@@ -62,7 +64,7 @@ fn ascend(keys: &[Key]) -> bool
 }
 
 /// Whether texts are keys: `BadKey` with the index of the first that is not.
-fn check_keys(texts: &[Bytes]) -> Result<(), RecordFault>
+fn check_keys(texts: &[Raw]) -> Result<(), RecordFault>
     requires { length texts.now ≤ 32 }
     ensures { Gives (λ x. x) result (checked_keys 0 texts.now) }
 {
@@ -77,13 +79,13 @@ fn check_keys(texts: &[Bytes]) -> Result<(), RecordFault>
 }
 
 /// These texts as keys.
-fn keys_from(alloc: Global, texts: Vec<Bytes>) -> Result<Vec<Key>, AllocError>
+fn keys_from(alloc: Global, texts: Vec<Raw>) -> Result<Vec<Key>, AllocError>
     requires { IsTrue (list_all is_key texts.items) }
     ensures { IfOk result (λ keys. keys.items ≡ texts.items) }
 {
     let mut keys = Vec::new(alloc);
     for text in texts {
-        keys.push(Key::of(text))?;
+        keys.push(Key::of(Bytes::from_vec(text.into_vec())))?;
     }
     Ok(keys)
 }
@@ -92,7 +94,7 @@ impl Keys {
     /// The write set of texts that ascend: `BadKeys` where there are none or more than 32, and then
     /// `BadKey` with the index of the first that is no key.
     #[tactic(auto, unfolding(crate::specs::Reading::checked_set))]
-    pub(crate) fn of(alloc: Global, texts: Vec<Bytes>) -> Result<Keys, RecordFault>
+    pub(crate) fn of(alloc: Global, texts: Vec<Raw>) -> Result<Keys, RecordFault>
         requires { IsTrue (ascend texts.items) }
         ensures { Gives (λ x. x) result (checked_set texts.items) }
     {

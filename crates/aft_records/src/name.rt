@@ -1,6 +1,6 @@
 //! The names that stored values stand under.
 
-ghost use Rattle.std.specs.Prelude.{◌≡◌, ◌<◌, ◌++◌, string_bytes, OnOk, IfOk};
+ghost use Rattle.std.specs.Prelude.{◌≡◌, ◌<◌, ◌++◌, string_bytes, OnOk, IfOk, IfErr};
 ghost use Rattle.hex.specs.Hex.{encode_lower};
 ghost use Rattle.std.specs.Prelude.{option_map};
 ghost use Rattle.std.specs.List.{list_any};
@@ -51,7 +51,7 @@ fn push_digits(text: &mut String, alloc: Global, bytes: &[u8]) -> Result<(), All
 }
 
 /// Writes the time and the UUID of an id.
-fn push_id(text: &mut String, alloc: Global, id: &TxnId) -> Result<(), AllocError>
+pub(crate) fn push_id(text: &mut String, alloc: Global, id: &TxnId) -> Result<(), AllocError>
     ensures { OnOk result (string_bytes text.new ≡ string_bytes text.old ++ id_digits id.now) }
 {
     push_digits(text, alloc, &id.time.to_be_bytes())?;
@@ -88,7 +88,8 @@ impl Name {
 /// What stands before the first such character, and what stands after it.
 fn split(text: &str, separator: char) -> Result<(&str, &str), NameFault>
     requires { separator < 128 }
-    ensures { GivesName (λ parts. (parts.0.now, parts.1.now)) result (split_once separator text.now) }
+    ensures found { GivesName (λ parts. (parts.0.now, parts.1.now)) result (split_once separator text.now) }
+    ensures refused { IfErr result (λ e. e ≡ NameFault.BadName) }
 {
     match text.split_once(separator) {
         Some((before, after)) => Ok((before, after)),
@@ -97,7 +98,7 @@ fn split(text: &str, separator: char) -> Result<(&str, &str), NameFault>
 }
 
 /// Whether a text has an upper case letter.
-fn has_upper(text: &str) -> bool
+pub(crate) fn has_upper(text: &str) -> bool
     ensures { result ≡ list_any is_upper text.now }
 {
     text.as_bytes().iter().any(|b| matches!(b, b'A'..=b'Z'))
@@ -105,7 +106,8 @@ fn has_upper(text: &str) -> bool
 
 /// A UUID by its thirty-two digits.
 fn uuid_from(digits: &str) -> Result<Uuid, NameFault>
-    ensures { GivesName (λ uuid. uuid) result (uuid_of digits.now) }
+    ensures found { GivesName (λ uuid. uuid) result (uuid_of digits.now) }
+    ensures refused { IfErr result (λ e. e ≡ NameFault.BadName) }
 {
     match <[u8; 16]>::from_hex(digits) {
         Ok(bytes) => Ok(Uuid::from_bytes(bytes)),
@@ -116,7 +118,8 @@ fn uuid_from(digits: &str) -> Result<Uuid, NameFault>
 /// A time by its sixteen digits.
 #[tactic(auto, unfolding(crate::specs::NameReading::time_of))]
 fn time_from(digits: &str) -> Result<u64, NameFault>
-    ensures { GivesName (λ time. time) result (time_of digits.now) }
+    ensures found { GivesName (λ time. time) result (time_of digits.now) }
+    ensures refused { IfErr result (λ e. e ≡ NameFault.BadName) }
 {
     let Ok(bytes) = <[u8; 8]>::from_hex(digits) else {
         return Err(NameFault::BadName);
@@ -130,8 +133,9 @@ fn time_from(digits: &str) -> Result<u64, NameFault>
 
 /// An id by its digits.
 #[tactic(auto, unfolding(crate::specs::NameReading::id_of))]
-fn id_from(text: &str) -> Result<TxnId, NameFault>
-    ensures { GivesName (λ id. id) result (id_of text.now) }
+pub(crate) fn id_from(text: &str) -> Result<TxnId, NameFault>
+    ensures found { GivesName (λ id. id) result (id_of text.now) }
+    ensures refused { IfErr result (λ e. e ≡ NameFault.BadName) }
 {
     let (time, uuid) = split(text, '-')?;
     let time = time_from(time)?;

@@ -1,18 +1,23 @@
 //! Stored values from bytes.
 
-ghost use Rattle.std.specs.Prelude.{◌≡◌, None, IfOk, IsTrue};
+ghost use Rattle.std.specs.Prelude.{◌≡◌, ◌<◌, ◌≤◌, ◌^◌, length, IfOk, IsTrue, OnOk, Ok};
+ghost use Rattle.aft_fields.specs.Order.{ascend};
 ghost use Rattle.aft_records.specs.Gives.{Gives};
-ghost use Rattle.aft_records.specs.Limits.{is_time, ascend};
-ghost use Rattle.aft_records.specs.Rows.{commit_row, version_row, marker_row};
-ghost use Rattle.aft_records.specs.Stored.{IsCommit, IsVersion, IsMarker};
-ghost use Rattle.aft_records.specs.Reading.{texts_after, texts_at, checked_time, commit_at, ended_commit, commit_behind, version_at, ended_version, ended_id, first_commit_of, version_of, full_of, done_of, marker_of};
+ghost use Rattle.aft_records.specs.Limits.{is_time, is_origin};
+ghost use Rattle.aft_records.specs.Rows.{record_row, version_row, marker_row};
+ghost use Rattle.aft_records.specs.Records.{IsRecordOf, IsSpelledRecordOf};
+ghost use Rattle.aft_records.specs.Stored.{IsCommit, IsRecord, IsVersion, IsMarker};
+ghost use Rattle.aft_records.specs.Reading.{is_tagged, checked_time, checked_origin, checked_reads, checked_commit, commit_in, checked_record, record_in, checked_version, version_in, done_in, first_commit_of, record_of, second_commit_of, commit_of, version_of, full_of, done_of, marker_of};
 
-use crate::fault::{FieldFault, RecordFault};
+use crate::cells::Cells;
+use crate::fault::RecordFault;
 use crate::key::{Key, is_key};
-use crate::keys::{Keys, follows};
-use crate::stored::{Commit, Marker, Version};
-use crate::walk::Walk;
-use aft_id::{Bytes, TxnId};
+use crate::keys::Keys;
+use crate::read_id::ids_from;
+use crate::stored::{Commit, Marker, Origin, Record, Version};
+use crate::tables::{COMMITS, DONES, FULLS, RECORDS, VERSIONS};
+use aft_fields::Raw;
+use aft_id::{Bytes, List, TxnId};
 use std::alloc::Global;
 
 /// The first time that is past its limit, in milliseconds.
@@ -21,43 +26,14 @@ const TIME_END: u64 = 1 << 48;
 /// The most bytes of a stored value.
 const MAX_VALUE_BYTES: usize = 4096;
 
-/// So many texts of this field.
-fn so_many_texts<'a>(
-    alloc: Global,
-    field: u32,
-    count: u32,
-    walk: Walk<'a>,
-) -> Result<(Vec<Bytes>, Walk<'a>), RecordFault>
-    ensures { Gives (λ x. (x.0.items, x.1)) result (texts_after field count None walk.entry) }
-{
-    let mut texts = Vec::new(alloc);
-    let mut before = None;
-    let mut rest = walk;
-    for _ in 0..count {
-        let (text, after) = rest.text(field)?;
-        if !follows(before, text) {
-            return Err(RecordFault::Field(FieldFault::Unsorted { field }));
-        }
-        texts.push(Bytes::from_vec(Vec::from_slice(alloc, text)?))?;
-        before = Some(text);
-        rest = after;
-    }
-    Ok((texts, rest))
-}
+/// The greatest number of a node.
+const MAX_NODE: u64 = 8;
 
-/// Texts of this field behind their number.
-#[tactic(auto, unfolding(crate::specs::Reading::texts_at))]
-fn texts<'a>(
-    alloc: Global,
-    field: u32,
-    walk: Walk<'a>,
-) -> Result<(Vec<Bytes>, Walk<'a>), RecordFault>
-    ensures texts { Gives (λ x. (x.0.items, x.1)) result (texts_at field walk.entry) }
-    ensures ascending { IfOk result (λ x. IsTrue (ascend x.0.items)) }
-{
-    let (count, walk) = walk.u32()?;
-    so_many_texts(alloc, field, count, walk)
-}
+/// The first number of an incarnation that is past its limit.
+const INCARNATION_END: u64 = 1 << 32;
+
+/// The most reads of a record.
+const MAX_READS: usize = 8;
 
 /// Whether a time is within its limit.
 pub(crate) fn is_time(time: u64) -> bool
@@ -76,95 +52,171 @@ fn check_time(time: u64) -> Result<(), RecordFault>
     Ok(())
 }
 
-/// The cells of a commit.
-#[tactic(auto, unfolding(crate::specs::Reading::commit_at))]
-fn commit_cells<'a>(
-    alloc: Global,
-    walk: Walk<'a>,
-) -> Result<((TxnId, Vec<Bytes>), Walk<'a>), RecordFault>
-    ensures cells { Gives (λ x. (record { id = x.0.0; keys = x.0.1.items }, x.1)) result (commit_at walk.entry) }
-    ensures ascending { IfOk result (λ x. IsTrue (ascend x.0.1.items)) }
-{
-    let (id, walk) = walk.id()?;
-    let (keys, walk) = texts(alloc, 2, walk)?;
-    Ok(((id, keys), walk))
-}
-
-/// A commit that ends here, within its limits.
-#[tactic(auto, unfolding(crate::specs::Reading::ended_commit))]
-fn ended_commit(
-    alloc: Global,
-    id: TxnId,
-    keys: Vec<Bytes>,
-    walk: Walk<'_>,
-) -> Result<Commit, RecordFault>
+/// A commit within its limits.
+#[tactic(auto, unfolding(crate::specs::Reading::checked_commit))]
+fn checked_commit(alloc: Global, id: TxnId, keys: Vec<Raw>) -> Result<Commit, RecordFault>
     requires { IsTrue (ascend keys.items) }
-    ensures { Gives (λ x. x) result (ended_commit (record { id = id; keys = keys.items }, walk.entry)) }
+    ensures { Gives (λ x. x) result (checked_commit id keys.items) }
 {
-    walk.end()?;
     check_time(id.time)?;
     let keys = Keys::of(alloc, keys)?;
     Ok(Commit { id, keys })
 }
 
-/// A commit from here to the end, behind its tag.
-#[tactic(auto, unfolding(crate::specs::Reading::commit_behind))]
-fn commit_behind(alloc: Global, walk: Walk<'_>) -> Result<Commit, RecordFault>
-    ensures { Gives (λ x. x) result (commit_behind walk.entry) }
+/// A commit by its cells.
+#[tactic(auto, unfolding(crate::specs::Reading::commit_in))]
+fn commit_in(alloc: Global, cells: Cells) -> Result<Commit, RecordFault>
+    ensures { Gives (λ x. x) result (commit_in cells) }
 {
-    let ((id, keys), walk) = commit_cells(alloc, walk)?;
-    ended_commit(alloc, id, keys, walk)
+    let (id, cells) = cells.id()?;
+    let (keys, _) = cells.texts()?;
+    checked_commit(alloc, id, keys)
 }
 
-/// The key and the value of a version, behind its id, and the end, within their limits.
-#[tactic(auto, unfolding(crate::specs::Reading::ended_version))]
-fn ended_version(
-    alloc: Global,
-    id: TxnId,
-    key: &[u8],
-    value: &[u8],
-    walk: Walk<'_>,
-) -> Result<Version, RecordFault>
-    ensures { Gives (λ x. x) result (ended_version (record { id = id; key = key.now; value = value.now }, walk.entry)) }
+/// Whether a record may come from this node and incarnation with so many reads.
+fn is_origin(node: u64, inc: u64, reads: usize) -> bool
+    ensures { result ≡ is_origin node inc reads }
 {
-    walk.end()?;
+    let owned = if node == 0 {
+        inc == 0 && reads == 0
+    } else {
+        1 <= inc
+    };
+    node <= MAX_NODE && inc < INCARNATION_END && owned
+}
+
+/// `BadOrigin` where a record may not come from there.
+fn check_origin(node: u64, inc: u64, reads: usize) -> Result<(), RecordFault>
+    ensures origin { Gives (λ x. x) result (checked_origin node inc reads) }
+    ensures node { OnOk result (node ≤ 8) }
+    ensures incarnation { OnOk result (inc < 2 ^ 32) }
+{
+    if !is_origin(node, inc, reads) {
+        return Err(RecordFault::BadOrigin);
+    }
+    Ok(())
+}
+
+/// The reads of a record by their texts, `BadReads` where they are none.
+fn checked_reads(alloc: Global, texts: &[Raw]) -> Result<Vec<TxnId>, RecordFault>
+    ensures { Gives (λ ids. ids.items) result (checked_reads texts.now) }
+{
+    if texts.len() > MAX_READS {
+        return Err(RecordFault::BadReads);
+    }
+    ids_from(alloc, texts)
+}
+
+/// A record within its limits.
+#[tactic(auto, unfolding(crate::specs::Reading::checked_record))]
+fn checked_record(
+    alloc: Global,
+    commit: (TxnId, Vec<Raw>),
+    node: u64,
+    inc: u64,
+    reads: &[Raw],
+) -> Result<Record, RecordFault>
+    requires { IsTrue (ascend commit.1.items) }
+    ensures { Gives (λ x. x) result (checked_record commit.0 commit.1.items node inc reads.now) }
+{
+    let commit = checked_commit(alloc, commit.0, commit.1)?;
+    check_origin(node, inc, reads.len())?;
+    let reads = List::from_vec(checked_reads(alloc, reads)?);
+    let origin = Origin {
+        node: node as u32,
+        inc: inc as u32,
+        reads,
+    };
+    Ok(Record { commit, origin })
+}
+
+/// A record of the second format by its cells.
+#[tactic(auto, unfolding(crate::specs::Reading::record_in))]
+fn record_in(alloc: Global, cells: Cells) -> Result<Record, RecordFault>
+    ensures { Gives (λ x. x) result (record_in cells) }
+{
+    let (id, cells) = cells.id()?;
+    let (keys, cells) = cells.texts()?;
+    let (node, cells) = cells.number()?;
+    let (inc, cells) = cells.number()?;
+    let (reads, _) = cells.texts()?;
+    checked_record(alloc, (id, keys), node, inc, reads.as_slice())
+}
+
+/// A version within its limits.
+#[tactic(auto, unfolding(crate::specs::Reading::checked_version))]
+fn checked_version(id: TxnId, key: Raw, value: Raw) -> Result<Version, RecordFault>
+    ensures { Gives (λ x. x) result (checked_version id key value) }
+{
     check_time(id.time)?;
-    if !is_key(key) {
+    if !is_key(key.as_slice()) {
         return Err(RecordFault::BadKey { index: 0 });
     }
-    if value.len() > MAX_VALUE_BYTES {
+    if value.as_slice().len() > MAX_VALUE_BYTES {
         return Err(RecordFault::LongValue);
     }
-    let key = Key::of(Bytes::from_vec(Vec::from_slice(alloc, key)?));
-    let value = Bytes::from_vec(Vec::from_slice(alloc, value)?);
+    let key = Key::of(Bytes::from_vec(key.into_vec()));
+    let value = Bytes::from_vec(value.into_vec());
     Ok(Version { id, key, value })
 }
 
-/// The cells of a version, which a `Version` holds only within its limits.
-#[derive(Drop)]
-struct VersionCells<'a> {
-    id: TxnId,
-    key: &'a [u8],
-    value: &'a [u8],
-}
-
-#[tactic(auto, unfolding(crate::specs::Reading::version_at))]
-fn version_cells<'a>(walk: Walk<'a>) -> Result<(VersionCells<'a>, Walk<'a>), RecordFault>
-    ensures { Gives (λ x. (record { id = x.0.id; key = x.0.key.now; value = x.0.value.now }, x.1)) result (version_at walk.entry) }
+/// A version by its cells.
+#[tactic(auto, unfolding(crate::specs::Reading::version_in))]
+fn version_in(cells: Cells) -> Result<Version, RecordFault>
+    ensures { Gives (λ x. x) result (version_in cells) }
 {
-    let (id, walk) = walk.id()?;
-    let (key, walk) = walk.text(2)?;
-    let (value, walk) = walk.bytes()?;
-    Ok((VersionCells { id, key, value }, walk))
+    let (id, cells) = cells.id()?;
+    let (key, cells) = cells.text()?;
+    let (value, _) = cells.bytes()?;
+    checked_version(id, key, value)
 }
 
-/// A commit's record, whole.
+/// A short marker by its cells.
+#[tactic(auto, unfolding(crate::specs::Reading::done_in))]
+fn done_in(cells: Cells) -> Result<Marker, RecordFault>
+    ensures { Gives (λ x. x) result (done_in cells) }
+{
+    let (id, _) = cells.id()?;
+    check_time(id.time)?;
+    Ok(Marker::Done(id))
+}
+
+/// A commit's record of the first format, whole.
 #[tactic(auto, unfolding(crate::specs::Reading::first_commit_of))]
-fn commit_from(alloc: Global, bytes: &[u8]) -> Result<Commit, RecordFault>
+fn first_commit_from(alloc: Global, bytes: &[u8]) -> Result<Commit, RecordFault>
     ensures { Gives (λ read. read) result (first_commit_of bytes.now) }
 {
-    let walk = Walk::start(bytes).tag(*b"AC1")?;
-    commit_behind(alloc, walk)
+    let cells = Cells::of(alloc, &COMMITS, bytes)?;
+    commit_in(alloc, cells)
+}
+
+/// A record of the second format, whole.
+#[tactic(auto, unfolding(crate::specs::Reading::record_of))]
+fn record_from(alloc: Global, bytes: &[u8]) -> Result<Record, RecordFault>
+    ensures { Gives (λ read. read) result (record_of bytes.now) }
+{
+    let cells = Cells::of(alloc, &RECORDS, bytes)?;
+    record_in(alloc, cells)
+}
+
+/// The commit of a record of the second format.
+#[tactic(auto, unfolding(crate::specs::Reading::second_commit_of))]
+fn second_commit_from(alloc: Global, bytes: &[u8]) -> Result<Commit, RecordFault>
+    ensures { Gives (λ read. read) result (second_commit_of bytes.now) }
+{
+    let whole = record_from(alloc, bytes)?;
+    Ok(whole.commit)
+}
+
+/// A commit's record, whole, in either format.
+#[tactic(auto, unfolding(crate::specs::Reading::commit_of))]
+fn commit_from(alloc: Global, bytes: &[u8]) -> Result<Commit, RecordFault>
+    ensures { Gives (λ read. read) result (commit_of bytes.now) }
+{
+    if bytes.starts_with(&RECORDS.tag) {
+        return second_commit_from(alloc, bytes);
+    }
+    first_commit_from(alloc, bytes)
 }
 
 /// A version, whole.
@@ -172,29 +224,27 @@ fn commit_from(alloc: Global, bytes: &[u8]) -> Result<Commit, RecordFault>
 fn version_from(alloc: Global, bytes: &[u8]) -> Result<Version, RecordFault>
     ensures { Gives (λ read. read) result (version_of bytes.now) }
 {
-    let walk = Walk::start(bytes).tag(*b"AV1")?;
-    let (cells, walk) = version_cells(walk)?;
-    ended_version(alloc, cells.id, cells.key, cells.value, walk)
+    let cells = Cells::of(alloc, &VERSIONS, bytes)?;
+    version_in(cells)
 }
 
-/// A short marker's id, behind its tag.
-#[tactic(auto, unfolding(crate::specs::Reading::done_of, crate::specs::Reading::ended_id))]
-fn done_behind(walk: Walk<'_>) -> Result<Marker, RecordFault>
-    ensures { Gives (λ x. x) result (done_of walk.entry) }
-{
-    let (id, walk) = walk.id()?;
-    walk.end()?;
-    check_time(id.time)?;
-    Ok(Marker::Done(id))
-}
-
-/// A full marker's commit, behind its tag.
+/// A full marker, whole.
 #[tactic(auto, unfolding(crate::specs::Reading::full_of))]
-fn full_behind(alloc: Global, walk: Walk<'_>) -> Result<Marker, RecordFault>
-    ensures { Gives (λ x. x) result (full_of walk.entry) }
+fn full_from(alloc: Global, bytes: &[u8]) -> Result<Marker, RecordFault>
+    ensures { Gives (λ read. read) result (full_of bytes.now) }
 {
-    let commit = commit_behind(alloc, walk)?;
+    let cells = Cells::of(alloc, &FULLS, bytes)?;
+    let commit = commit_in(alloc, cells)?;
     Ok(Marker::Full(commit))
+}
+
+/// A short marker, whole.
+#[tactic(auto, unfolding(crate::specs::Reading::done_of))]
+fn done_from(alloc: Global, bytes: &[u8]) -> Result<Marker, RecordFault>
+    ensures { Gives (λ read. read) result (done_of bytes.now) }
+{
+    let cells = Cells::of(alloc, &DONES, bytes)?;
+    done_in(cells)
 }
 
 /// A marker, whole.
@@ -202,28 +252,41 @@ fn full_behind(alloc: Global, walk: Walk<'_>) -> Result<Marker, RecordFault>
 fn marker_from(alloc: Global, bytes: &[u8]) -> Result<Marker, RecordFault>
     ensures { Gives (λ read. read) result (marker_of bytes.now) }
 {
-    let (tag, walk) = Walk::start(bytes).array::<3>()?;
-    if tag == *b"AF1" {
-        return full_behind(alloc, walk);
+    if bytes.starts_with(&DONES.tag) {
+        return done_from(alloc, bytes);
     }
-    if tag == *b"AD1" {
-        return done_behind(walk);
-    }
-    Err(RecordFault::Field(FieldFault::Tag))
+    full_from(alloc, bytes)
 }
 
 impl Commit {
-    /// The commit whose record these bytes are, or the first fault: in the layout from left to right,
-    /// and then `BadTime`, `BadKeys` or `BadKey`.
+    /// The commit whose record these bytes are, in either format, or the first fault: in the layout from left
+    /// to right, and then `BadTime`, `BadKeys` or `BadKey`, and in the second format `BadOrigin` or `BadReads`.
     pub fn decode(alloc: Global, bytes: &[u8]) -> Result<Commit, RecordFault>
-        // What is read is spelled so, and within the limits.
-        ensures found { IfOk result (λ commit. IsCommit commit × (bytes.now ≡ commit_row commit)) }
+        // What is read keeps the limits, and the bytes are a record of it.
+        ensures found { IfOk result (λ commit. IsCommit commit × IsRecordOf bytes.now commit) }
+        // Such bytes are one of its spellings.
+        ensures spelled { IfOk result (IsSpelledRecordOf bytes.now) }
         // What is spelled so, and within the limits, is read, unless memory runs out.
-        ensures only { (commit : Commit) → IsCommit commit → bytes.now ≡ commit_row commit → Gives (λ read. read) result (Ok commit) }
+        ensures only { (commit : Commit) → IsCommit commit → IsSpelledRecordOf bytes.now commit → Gives (λ read. read) result (Ok commit) }
         // Which fault it is.
-        ensures exact { Gives (λ read. read) result (first_commit_of bytes.now) }
+        ensures exact { Gives (λ read. read) result (commit_of bytes.now) }
     {
         commit_from(alloc, bytes)
+    }
+}
+
+impl Record {
+    /// The record of the second format that these bytes are, or the first fault: in the layout from left to
+    /// right, and then `BadTime`, `BadKeys`, `BadKey`, `BadOrigin` or `BadReads`.
+    pub fn decode(alloc: Global, bytes: &[u8]) -> Result<Record, RecordFault>
+        // What is read is spelled so, and within the limits.
+        ensures found { IfOk result (λ whole. IsRecord whole × (bytes.now ≡ record_row whole)) }
+        // What is spelled so, and within the limits, is read, unless memory runs out.
+        ensures only { (whole : Record) → IsRecord whole → bytes.now ≡ record_row whole → Gives (λ read. read) result (Ok whole) }
+        // Which fault it is.
+        ensures exact { Gives (λ read. read) result (record_of bytes.now) }
+    {
+        record_from(alloc, bytes)
     }
 }
 

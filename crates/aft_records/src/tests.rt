@@ -5,13 +5,234 @@ use std::process::Abort;
 use std::test::Fail;
 use uuid::Uuid;
 
-/// A commit's tag and the id 1000-u1, in digits.
+/// A record's tag of the first format and the id 1000-u1, in digits.
 const HEAD: &str = "41433100000000000003e800000000000000000000000000000001";
+
+/// The same of the second format, with the key x.
+const HEAD_2: &str = "41433200000000000003e800000000000000000000000000000001000000010000000178";
+
+/// A version's tag and that id.
+const HEAD_V: &str = "41563100000000000003e800000000000000000000000000000001";
+
+/// A short marker of that id.
+const DONE: &str = "41443100000000000003e800000000000000000000000000000001";
+
+/// The rest of a record of node 1, incarnation 1, that read 1000-u1.
+const ONE_READ: &str =
+    "000000000000000100000000000000010000000100000031303030303030303030303030303365382d3030303030303030303030303030303030303030303030303030303030303031";
 
 /// The bytes of the digits of two parts.
 fn unhex(alloc: Global, head: &str, rest: &str) -> Result<Vec<u8>, Fail> {
     let mut bytes = hex::decode(alloc, head)?;
     bytes.extend_from_slice(&hex::decode(alloc, rest)?)?;
+    Ok(bytes)
+}
+
+/// What the value is written as that these bytes are read as.
+fn again(alloc: Global, bytes: &[u8]) -> Result<Bytes, RecordFault> {
+    let written = if bytes.starts_with(b"AV1") {
+        Version::decode(alloc, bytes)?.encode(alloc)
+    } else if bytes.starts_with(b"AC1") {
+        Commit::decode(alloc, bytes)?.encode(alloc)
+    } else if bytes.starts_with(b"AC2") {
+        Commit::decode(alloc, bytes)?;
+        Record::decode(alloc, bytes)?.encode(alloc)
+    } else {
+        Marker::decode(alloc, bytes)?.encode(alloc)
+    };
+    written.map_err(|_| RecordFault::Memory)
+}
+
+/// A vector is read and written again, and each of its beginnings is cut short in the part that it ends in.
+fn is_vector(rt: &impl Abort, alloc: Global, bytes: &[u8], parts: &[u64]) -> Result<(), Fail> {
+    assert!(rt; again(alloc, bytes)?.as_slice() == bytes);
+    for n in 0..bytes.len() {
+        let at = parts
+            .iter()
+            .copied()
+            .filter(|part| *part <= n as u64)
+            .max()
+            .unwrap_or(0);
+        let fault = RecordFault::Field(FieldFault::Short { at });
+        assert!(rt; again(alloc, &bytes[..n]).err() == Some(fault), "{n}");
+    }
+    Ok(())
+}
+
+/// These bytes have this fault.
+fn has_fault(rt: &impl Abort, alloc: Global, bytes: &[u8], fault: RecordFault) {
+    assert!(rt; again(alloc, bytes).err() == Some(fault), "{fault}");
+}
+
+/// Bytes that the digits of two parts stand for, and their fault.
+type Faulty = (&'static str, &'static str, RecordFault);
+
+#[test]
+fn vectors_and_faults(rt: HostRuntime) -> Result<(), Fail> {
+    let alloc = rt.alloc();
+    let vectors: [(&str, &str, &[u64]); 7] = [
+        (
+            HEAD_V,
+            "0000000178000000026869",
+            &[0, 3, 11, 27, 31, 32, 36],
+        ),
+        (HEAD, "000000010000000178", &[0, 3, 11, 27, 31, 35]),
+        (
+            HEAD,
+            "0000000200000001780000000179",
+            &[0, 3, 11, 27, 31, 35, 36, 40],
+        ),
+        (DONE, "", &[0, 3, 11]),
+        (
+            HEAD_2,
+            "0000000000000001000000000000000100000000",
+            &[0, 3, 11, 27, 31, 35, 36, 44, 52],
+        ),
+        (
+            HEAD_2,
+            ONE_READ,
+            &[0, 3, 11, 27, 31, 35, 36, 44, 52, 56, 60],
+        ),
+        (
+            HEAD_2,
+            "0000000000000000000000000000000000000000",
+            &[0, 3, 11, 27, 31, 35, 36, 44, 52],
+        ),
+    ];
+    for (head, rest, parts) in vectors {
+        is_vector(&rt, alloc, &unhex(alloc, head, rest)?, parts)?;
+    }
+    let faulty: [Faulty; 24] = [
+        (
+            "414631",
+            "",
+            RecordFault::Field(FieldFault::Short { at: 3 }),
+        ),
+        ("414233", "", RecordFault::Field(FieldFault::Tag)),
+        (
+            HEAD,
+            "0000000100000001ff",
+            RecordFault::Field(FieldFault::NotUtf8 { field: 2 }),
+        ),
+        (
+            HEAD,
+            "0000000200000002c3a90000000180",
+            RecordFault::Field(FieldFault::NotUtf8 { field: 2 }),
+        ),
+        (
+            HEAD,
+            "0000000200000001780000000178",
+            RecordFault::Field(FieldFault::Unsorted { field: 2 }),
+        ),
+        (
+            HEAD,
+            "0000000200000001790000000178",
+            RecordFault::Field(FieldFault::Unsorted { field: 2 }),
+        ),
+        (
+            HEAD,
+            "000000020000000178000000017900",
+            RecordFault::Field(FieldFault::Spare { at: 41 }),
+        ),
+        (
+            "414331000000000000000000000000000000000000000000000001",
+            "000000010000000178",
+            RecordFault::BadTime,
+        ),
+        (
+            "414331000100000000000000000000000000000000000000000001",
+            "000000010000000178",
+            RecordFault::BadTime,
+        ),
+        (HEAD, "00000000", RecordFault::BadKeys),
+        (HEAD, "000000010000000120", RecordFault::BadKey { index: 0 }),
+        (
+            HEAD_2,
+            "0000000000000009000000000000000100000000",
+            RecordFault::BadOrigin,
+        ),
+        (
+            HEAD_2,
+            "0000000000000001000000010000000000000000",
+            RecordFault::BadOrigin,
+        ),
+        (
+            HEAD_2,
+            "0000000000000000000000000000000100000000",
+            RecordFault::BadOrigin,
+        ),
+        (
+            HEAD_2,
+            "000000000000000000000000000000000000000100000031303030303030303030303030303365382d3030303030303030303030303030303030303030303030303030303030303031",
+            RecordFault::BadOrigin,
+        ),
+        (
+            HEAD_2,
+            "0000000000000001000000000000000000000000",
+            RecordFault::BadOrigin,
+        ),
+        (
+            HEAD_2,
+            "000000000000000900000000000000010000000100000031303030303030303030303030303345382d3030303030303030303030303030303030303030303030303030303030303031",
+            RecordFault::BadOrigin,
+        ),
+        (
+            HEAD_2,
+            "000000000000000100000000000000010000000100000031303030303030303030303030303345382d3030303030303030303030303030303030303030303030303030303030303031",
+            RecordFault::BadReads,
+        ),
+        (
+            HEAD_2,
+            "000000000000000100000000000000010000000100000031303030303030303030303030303030302d3030303030303030303030303030303030303030303030303030303030303031",
+            RecordFault::BadReads,
+        ),
+        (
+            HEAD_2,
+            "000000000000000100000000000000010000000100000031303030313030303030303030303030302d3030303030303030303030303030303030303030303030303030303030303031",
+            RecordFault::BadReads,
+        ),
+        (
+            HEAD_2,
+            "000000000000000100000000000000010000000100000000",
+            RecordFault::BadReads,
+        ),
+        (
+            HEAD_2,
+            "000000000000000100000000000000010000000100000031303030303030303030303030303365382d303030303030303030303030303030303030303030303030303030303030303100",
+            RecordFault::Field(FieldFault::Spare { at: 109 }),
+        ),
+        (
+            HEAD_2,
+            "000000000000000100000000000000010000000200000031303030303030303030303030303365392d303030303030303030303030303030303030303030303030303030303030303100000031303030303030303030303030303365382d3030303030303030303030303030303030303030303030303030303030303031",
+            RecordFault::Field(FieldFault::Unsorted { field: 5 }),
+        ),
+        (
+            HEAD_2,
+            "000000000000000100000000000000010000000100000001ff",
+            RecordFault::Field(FieldFault::NotUtf8 { field: 5 }),
+        ),
+    ];
+    for (head, rest, fault) in faulty {
+        has_fault(&rt, alloc, &unhex(alloc, head, rest)?, fault);
+    }
+    let mut long = unhex(alloc, HEAD_V, "000000017800001001")?;
+    long.extend_from_slice(&[7; 4097])?;
+    has_fault(&rt, alloc, &long, RecordFault::LongValue);
+    has_fault(&rt, alloc, &nine_reads(alloc)?, RecordFault::BadReads);
+    let record = unhex(alloc, HEAD, "000000010000000178")?;
+    let tag = Some(RecordFault::Field(FieldFault::Tag));
+    assert!(rt; Marker::decode(alloc, &record).err() == tag);
+    Ok(())
+}
+
+/// A record with nine reads.
+fn nine_reads(alloc: Global) -> Result<Vec<u8>, Fail> {
+    let mut bytes = unhex(alloc, HEAD_2, "0000000000000001000000000000000100000009")?;
+    for digit in b'1'..=b'9' {
+        bytes.extend_from_slice(b"\0\0\0\x31000000000000000")?;
+        bytes.push(digit)?;
+        bytes.extend_from_slice(b"-00000000000000000000000000000001")?;
+    }
     Ok(bytes)
 }
 
@@ -30,46 +251,6 @@ fn keys_of(alloc: Global, names: &[&[u8]]) -> Result<List<Key>, Fail> {
     Ok(List::from_vec(keys))
 }
 
-fn commit_of(alloc: Global, names: &[&[u8]]) -> Result<Commit, Fail> {
-    let keys = Keys::new(keys_of(alloc, names)?)?;
-    Ok(Commit { id: an_id(), keys })
-}
-
-fn is_commit(rt: &impl Abort, alloc: Global, commit: &Commit, rest: &str) -> Result<(), Fail> {
-    let bytes = unhex(alloc, HEAD, rest)?;
-    let written = commit.encode(alloc)?;
-    assert!(rt; written.as_slice() == bytes.as_slice());
-    let read = Commit::decode(alloc, &bytes)?;
-    assert!(rt; read == *commit);
-    Ok(())
-}
-
-#[test]
-fn commits(rt: HostRuntime) -> Result<(), Fail> {
-    let alloc = rt.alloc();
-    let one = commit_of(alloc, &[b"x"])?;
-    is_commit(&rt, alloc, &one, "000000010000000178")?;
-    let two = commit_of(alloc, &[b"x", b"y"])?;
-    is_commit(&rt, alloc, &two, "0000000200000001780000000179")
-}
-
-#[test]
-fn versions(rt: HostRuntime) -> Result<(), Fail> {
-    let alloc = rt.alloc();
-    let id = "41563100000000000003e800000000000000000000000000000001";
-    let bytes = unhex(alloc, id, "0000000178000000026869")?;
-    let version = Version {
-        id: an_id(),
-        key: Key::new(alloc, b"x")?,
-        value: Bytes::from_vec(Vec::from_slice(alloc, b"hi")?),
-    };
-    let read = Version::decode(alloc, &bytes)?;
-    assert!(rt; read == version);
-    let written = read.encode(alloc)?;
-    assert!(rt; written.as_slice() == bytes.as_slice());
-    Ok(())
-}
-
 #[test]
 fn write_sets(rt: HostRuntime) -> Result<(), Fail> {
     let alloc = rt.alloc();
@@ -81,121 +262,6 @@ fn write_sets(rt: HostRuntime) -> Result<(), Fail> {
         many.push(Key::new(alloc, &[b])?)?;
     }
     assert!(rt; Keys::new(List::from_vec(many)).err() == Some(RecordFault::BadKeys));
-    Ok(())
-}
-
-#[test]
-fn markers(rt: HostRuntime) -> Result<(), Fail> {
-    let alloc = rt.alloc();
-    let bytes = unhex(
-        alloc,
-        "41443100000000000003e8",
-        "00000000000000000000000000000001",
-    )?;
-    let done = Marker::Done(an_id());
-    let written = done.encode(alloc)?;
-    assert!(rt; written.as_slice() == bytes.as_slice());
-    let read = Marker::decode(alloc, &bytes)?;
-    assert!(rt; read == done);
-    Ok(())
-}
-
-fn refuses(rt: &impl Abort, bytes: &[u8], alloc: Global, fault: FieldFault) {
-    let refused = Commit::decode(alloc, bytes).err();
-    assert!(rt; refused == Some(RecordFault::Field(fault)));
-}
-
-#[test]
-fn prefixes(rt: HostRuntime) -> Result<(), Fail> {
-    let alloc = rt.alloc();
-    let bytes = unhex(alloc, HEAD, "000000010000000178")?;
-    for n in 0..36 {
-        let at = match n {
-            0..=2 => 0,
-            3..=10 => 3,
-            11..=26 => 11,
-            27..=30 => 27,
-            31..=34 => 31,
-            _ => 35,
-        };
-        assert!(rt; n <= bytes.len());
-        refuses(&rt, &bytes[..n], alloc, FieldFault::Short { at });
-    }
-    Ok(())
-}
-
-fn has_fault(
-    rt: &impl Abort,
-    alloc: Global,
-    head: &str,
-    rest: &str,
-    fault: RecordFault,
-) -> Result<(), Fail> {
-    let bytes = unhex(alloc, head, rest)?;
-    let refused = Commit::decode(alloc, &bytes).err();
-    assert!(rt; refused == Some(fault), "{head}{rest}");
-    Ok(())
-}
-
-#[test]
-fn layout(rt: HostRuntime) -> Result<(), Fail> {
-    let table = [
-        ("0000000100000001ff", FieldFault::NotUtf8 { field: 2 }),
-        (
-            "0000000200000001780000000178",
-            FieldFault::Unsorted { field: 2 },
-        ),
-        (
-            "0000000200000001790000000178",
-            FieldFault::Unsorted { field: 2 },
-        ),
-        ("00000002000000017800000001", FieldFault::Short { at: 40 }),
-        (
-            "000000020000000178000000017900",
-            FieldFault::Spare { at: 41 },
-        ),
-    ];
-    for (rest, fault) in table {
-        has_fault(&rt, rt.alloc(), HEAD, rest, RecordFault::Field(fault))?;
-    }
-    Ok(())
-}
-
-#[test]
-fn limits(rt: HostRuntime) -> Result<(), Fail> {
-    let zero = "414331000000000000000000000000000000000000000000000001";
-    let late = "414331000100000000000000000000000000000000000000000001";
-    let table = [
-        (zero, "000000010000000178", RecordFault::BadTime),
-        (late, "000000010000000178", RecordFault::BadTime),
-        (HEAD, "00000000", RecordFault::BadKeys),
-        (HEAD, "000000010000000120", RecordFault::BadKey { index: 0 }),
-    ];
-    for (head, rest, fault) in table {
-        has_fault(&rt, rt.alloc(), head, rest, fault)?;
-    }
-    Ok(())
-}
-
-#[test]
-fn other_tag(rt: HostRuntime) -> Result<(), Fail> {
-    let alloc = rt.alloc();
-    let record = unhex(alloc, HEAD, "000000010000000178")?;
-    let tag = RecordFault::Field(FieldFault::Tag);
-    assert!(rt; Marker::decode(alloc, &record).err() == Some(tag));
-    let empty = RecordFault::Field(FieldFault::Short { at: 0 });
-    assert!(rt; Marker::decode(alloc, &[]).err() == Some(empty));
-    Ok(())
-}
-
-#[test]
-fn long_value(rt: HostRuntime) -> Result<(), Fail> {
-    let alloc = rt.alloc();
-    let id = "41563100000000000003e800000000000000000000000000000001";
-    let mut bytes = unhex(alloc, id, "000000017800001001")?;
-    bytes.extend_from_slice(&[7; 4097])?;
-    let refused = Version::decode(alloc, &bytes).err();
-    assert!(rt; refused == Some(RecordFault::LongValue));
     Ok(())
 }
 

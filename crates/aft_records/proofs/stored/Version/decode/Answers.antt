@@ -9,4 +9,4 @@ pub returns-clause-found : goal.returns-clause-found
 returns-clause-found c = found_by _ (version_of c.args.bytes.now) c.version_from.result (λ x e. version_found c.args.bytes.now x (λ i. omega (arith, c.type_inv.bytes i)) e) c.version_from.ensures
 
 pub returns-clause-only : goal.returns-clause-only
-returns-clause-only c = λ version fits e. subst (λ read. Gives (λ x. x) c.version_from.result read) (ap version_of e ∙ version_written version fits.0 ∙ timely_is version.id.time version fits.1) c.version_from.ensures
+returns-clause-only c = λ whole fits e. subst (λ read. Gives (λ x. x) c.version_from.result read) (ap version_of e ∙ version_written whole fits.0 ∙ timely_is whole.id.time whole fits.1) c.version_from.ensures
