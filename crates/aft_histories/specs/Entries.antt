@@ -3,9 +3,10 @@ use Rattle.std.specs.Prelude.{ℕ, List, [], ◌∷◌, codes}
 use Rattle.std.specs.Int.{w128, to_be_bytes}
 use Rattle.aft_id.specs.declared.txn_id.TxnId.{TxnId}
 use Rattle.aft_records.specs.declared.stored.Commit.{Commit}
+use Rattle.aft_records.specs.declared.stored.Record.{Record}
 use Rattle.aft_records.specs.declared.stored.Marker.TheVariants.{Full, Done}
 use Rattle.aft_records.specs.declared.name.Name.TheVariants.{VersionOf, CommitOf, RetiredOf}
-use Rattle.aft_records.specs.Rows.{commit_row, version_row, marker_row}
+use Rattle.aft_records.specs.Rows.{commit_row, record_row, version_row, marker_row}
 use Rattle.aft_records.specs.Names.{name_text}
 use Rattle.aft_keeper.specs.declared.keeper.Pair.{Pair}
 use Rattle.aft_keeper.specs.declared.keeper.KeeperCall.{KeeperCall}
@@ -63,9 +64,28 @@ first = record { id = id_of 1000 1; keys = x ∷ y ∷ [] }
 abbrev pub second : Commit
 second = record { id = id_of 1001 3; keys = x ∷ y ∷ [] }
 
+-- the record of a commit that an incarnation wrote and these ids were read for, in the second format
+abbrev pub written : ℕ → ℕ → List TxnId → Commit → Record
+written node inc reads c = record { commit = c; origin = record { node = node; inc = inc; reads = reads } }
+
 -- a record, a version and markers, each under its name
+abbrev pub pair_of_record : Record → Pair
+pair_of_record r = record { name = name_text (CommitOf r.commit.id.uuid); bytes = record_row r }
+
+-- the record that an incarnation wrote, for which nothing was read
+abbrev pub record_by : ℕ → ℕ → Commit → Pair
+record_by node inc c = pair_of_record (written node inc [] c)
+
+-- that of the first incarnation of node 1, and that of the office, which puts it in place of an old one
 abbrev pub record_pair : Commit → Pair
-record_pair c = record { name = name_text (CommitOf c.id.uuid); bytes = commit_row c }
+record_pair c = record_by 1 1 c
+
+abbrev pub upgraded_pair : Commit → Pair
+upgraded_pair c = record_by 0 0 c
+
+-- an old record, in the first format
+abbrev pub old_record : Commit → Pair
+old_record c = record { name = name_text (CommitOf c.id.uuid); bytes = commit_row c }
 
 abbrev pub version_pair : List ℕ → TxnId → Pair
 version_pair key id = record { name = version_of key id; bytes = version_row (record { id = id; key = key; value = codes "hi" }) }
@@ -80,11 +100,18 @@ done_pair id = record { name = name_text (RetiredOf id.uuid); bytes = marker_row
 abbrev pub puts : ℕ → ℕ → Pair → KeeperAnswer → DoorEntry
 puts node inc pair answer = asks node inc (Put pair.name pair.bytes) answer
 
+abbrev pub deletes_by : ℕ → ℕ → List ℕ → KeeperAnswer → DoorEntry
+deletes_by node inc name answer = asks node inc (Delete name) answer
+
 abbrev pub deletes : List ℕ → KeeperAnswer → DoorEntry
-deletes name answer = asks 0 1 (Delete name) answer
+deletes name answer = deletes_by 0 1 name answer
 
 abbrev pub gets : ℕ → ℕ → List ℕ → KeeperAnswer → DoorEntry
 gets node inc name answer = asks node inc (Get name) answer
+
+-- a get that finds a pair
+abbrev pub got : ℕ → ℕ → Pair → DoorEntry
+got node inc pair = gets node inc pair.name (answers.Found pair.bytes)
 
 -- membership and claims
 abbrev pub comes_up : ℕ → ℕ → DoorEntry

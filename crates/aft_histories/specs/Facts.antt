@@ -1,13 +1,13 @@
 -- Histories and stores of which facts are told.
 use Rattle.std.specs.Prelude.{ℕ, List, [], ◌∷◌, ◌++◌, map}
 use Rattle.std.specs.List.{range_with_len}
-use Rattle.aft_records.specs.declared.stored.Commit.{Commit}
 use Rattle.aft_keeper.specs.declared.keeper.Pair.{Pair}
 use Rattle.aft_keeper.specs.declared.keeper.KeeperAnswer.TheVariants.{Failed, Absent, Done}
+use Rattle.aft_model.specs.Membership.{last_inc}
 use Rattle.aft_model.specs.ScanRun.{ScanPage}
 use Rattle.aft_model.specs.declared.door.DoorEntry.{DoorEntry}
-use Rattle.aft_histories.specs.Entries.{x, y, id_of, first, second, record_of, marker_of, record_pair, version_pair, puts, gets, comes_up, claims, releases}
-use Rattle.aft_histories.specs.Legal.{begun, stored}
+use Rattle.aft_histories.specs.Entries.{x, y, first, second, record_of, marker_of, record_pair, record_by, version_pair, puts, deletes_by, gets, comes_up, fences, claims, releases}
+use Rattle.aft_histories.specs.Legal.{begun, stored, short_found, other}
 
 -- the put of a record failed
 abbrev pub in_doubt : List DoorEntry
@@ -17,15 +17,19 @@ in_doubt = stored ++ puts 1 1 (record_pair first) Failed ∷ []
 abbrev pub tried_again : List DoorEntry
 tried_again = in_doubt ++ gets 1 1 (record_of 1) Absent ∷ puts 1 1 (version_pair x first.id) Done ∷ puts 1 1 (version_pair y first.id) Done ∷ puts 1 1 (record_pair first) Done ∷ []
 
--- another commit of the first UUID
-abbrev pub other : Commit
-other = record { id = id_of 1002 1; keys = x ∷ [] }
-
 -- a node claims a UUID, finds it unused and releases it; another node commits it; then the first claims it again, and goes by what it found before
 abbrev pub older_gets : List DoorEntry
 older_gets = begun ++ releases 1 1 1 ∷ comes_up 2 1 ∷ claims 1 2 1 ∷ gets 2 1 (record_of 1) Absent ∷ gets 2 1 (marker_of 1) Absent
-    ∷ puts 2 1 (version_pair x first.id) Done ∷ puts 2 1 (version_pair y first.id) Done ∷ puts 2 1 (record_pair first) Done ∷ releases 1 2 1
+    ∷ puts 2 1 (version_pair x first.id) Done ∷ puts 2 1 (version_pair y first.id) Done ∷ puts 2 1 (record_by 2 1 first) Done ∷ releases 1 2 1
     ∷ claims 1 1 1 ∷ puts 1 1 (version_pair x other.id) Done ∷ puts 1 1 (record_pair other) Done ∷ []
+
+-- the delete of a short marker failed
+abbrev pub forget_failed : List DoorEntry
+forget_failed = short_found ++ deletes_by 1 1 (marker_of 1) Failed ∷ []
+
+-- the last incarnation that node 1 can have was fenced
+abbrev pub last_fenced : List DoorEntry
+last_fenced = comes_up 1 last_inc ∷ fences 1 last_inc ∷ []
 
 -- ---- stores
 

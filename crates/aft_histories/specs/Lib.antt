@@ -3,9 +3,8 @@ pub mod Honest
 pub mod Legal
 pub mod Illegal
 pub mod Facts
+pub mod Stages
+pub mod Copies
 pub mod Replies
 pub mod Boxes
 pub mod Office
-pub mod RunLines
-pub mod CausedLines
-pub mod CausedRounds

@@ -14,7 +14,7 @@ use Rattle.aft_model.specs.declared.reply.Reply.{Reply}
 use Rattle.aft_model.specs.declared.reply.Reply.TheVariants as reply
 use Rattle.aft_model.specs.declared.reply.Verdict.TheVariants.{Retired}
 use Rattle.aft_model.specs.Office.{LegalOffice, is_legal_office, is_backed, heard}
-use Rattle.aft_histories.specs.Entries.{x, y, id_of, first, second, record_of, marker_of, record_pair, version_pair, puts, gets, comes_up, claims, releases}
+use Rattle.aft_histories.specs.Entries.{x, y, id_of, first, second, record_of, marker_of, record_pair, old_record, version_pair, puts, gets, comes_up, claims, releases}
 use Rattle.aft_histories.specs.Facts.{full_page}
 use Rattle.aft_histories.specs.Legal.{full_opening}
 use Rattle.aft_histories.specs.Replies.{line_by, judged}
@@ -46,7 +46,7 @@ page_for by after pairs = record { by = by; act = acts.Call 0 1 (Scan (codes "c/
 
 -- the manager was shown all records
 abbrev pub scanned : List DoorEntry
-scanned = three_committed ++ page_for manager [] (record_pair first ∷ record_pair second ∷ record_pair third ∷ []) ∷ []
+scanned = three_committed ++ page_for manager [] (old_record first ∷ record_pair second ∷ record_pair third ∷ []) ∷ []
 
 -- the manager was shown a full page, and no other
 abbrev pub half_scanned : List DoorEntry
@@ -58,7 +58,7 @@ scanned_by_two = half_scanned ++ page_for another (record_of 64) [] ∷ []
 
 -- a node was shown all records for the manager's line
 abbrev pub scanned_by_node : List DoorEntry
-scanned_by_node = three_committed ++ record { by = manager; act = acts.Call 1 1 (Scan (codes "c/") [] 64) (Page (record_pair first ∷ record_pair second ∷ record_pair third ∷ [])) } ∷ []
+scanned_by_node = three_committed ++ record { by = manager; act = acts.Call 1 1 (Scan (codes "c/") [] 64) (Page (old_record first ∷ record_pair second ∷ record_pair third ∷ [])) } ∷ []
 
 -- ---- the office
 
@@ -94,6 +94,10 @@ collects = does manager Collecting None ∷ does another Nothing (Some reply.Col
 abbrev pub collected : List OfficeEntry
 collected = collects ++ does manager Collected (Some (reply.Collected (judged first.id Retired ∷ [])))
     ∷ does another Collecting None ∷ does another Collected (Some reply.StoreFault) ∷ []
+
+-- a round of orphan versions is over, and so is a copy
+abbrev pub answered_alone : List OfficeEntry
+answered_alone = does another Nothing (Some (reply.Orphans 1 0 0 0)) ∷ does manager Nothing (Some (reply.Copied 1 0)) ∷ []
 
 -- the history is legal, a rule refuses what should follow it, and with it the history isn't legal
 abbrev pub OfficeRefuses : Bool → List DoorEntry → List OfficeEntry → OfficeEntry → Type 0

@@ -1,7 +1,7 @@
 //! What histories and stores show of commits, claims and pages.
 
 ghost use Rattle.std.specs.Prelude.{◌≡◌, [], ◌∷◌, ◌++◌, codes, Some, None, IsTrue, IsFalse};
-ghost use Rattle.aft_model.specs.Claims.{holder, given_up};
+ghost use Rattle.aft_model.specs.Claims.{claim_place, forgotten, given_up, holder, holdout};
 ghost use Rattle.aft_records.specs.Superseded.{Superseded};
 ghost use Rattle.aft_model.specs.Committed.{Committed, Marked, committed};
 ghost use Rattle.aft_model.specs.Course.{KeepsCourse};
@@ -9,15 +9,15 @@ ghost use Rattle.aft_model.specs.Evidence.{covers};
 ghost use Rattle.aft_model.specs.Honest.{Honest};
 ghost use Rattle.aft_model.specs.LegalDoor.{Legal};
 ghost use Rattle.aft_model.specs.MayHold.{Unknown, OneOf, may_hold};
-ghost use Rattle.aft_model.specs.Membership.{incarnation, is_up, the_office};
-ghost use Rattle.aft_model.specs.Readings.{has_reading};
+ghost use Rattle.aft_model.specs.Membership.{greatest_fenced, incarnation, is_up, last_inc, next_inc, the_office, up_now};
+ghost use Rattle.aft_model.specs.Readings.{first_format_in, has_reading, records_in, written_in};
 ghost use Rattle.aft_model.specs.ScanRun.{is_scan_run};
 ghost use Rattle.aft_model.specs.Sound.{Sound, first_offender};
 ghost use Rattle.aft_model.specs.Whole.{Whole};
-ghost use Rattle.aft_histories.specs.Entries.{u, x, y, first, second, record_of, marker_of, version_of, record_pair, version_pair, full_pair, done_pair};
-ghost use Rattle.aft_histories.specs.Facts.{in_doubt, tried_again, other, older_gets, whole_first, whole_both, pair, full_page, last_page};
-ghost use Rattle.aft_histories.specs.Illegal.{holder_fenced};
-ghost use Rattle.aft_histories.specs.Legal.{begun, stored, ordinary, settled, superseded, marked, retired};
+ghost use Rattle.aft_histories.specs.Entries.{u, x, y, first, second, record_of, marker_of, version_of, written, pair_of_record, record_pair, old_record, version_pair, full_pair, done_pair};
+ghost use Rattle.aft_histories.specs.Facts.{in_doubt, tried_again, older_gets, forget_failed, last_fenced, whole_first, whole_both, pair, full_page, last_page};
+ghost use Rattle.aft_histories.specs.Illegal.{claimed_again, half_given_up, holder_fenced};
+ghost use Rattle.aft_histories.specs.Legal.{begun, stored, ordinary, settled, superseded, marked, retired, upgraded, forgot, other};
 
 /// Which commits are committed, superseded, marked and whole.
 #[tactic(auto, unfolding(crate::proofs::Stored::stored_forms))]
@@ -35,6 +35,8 @@ pub fn commits()
     ensures not_whole { Whole first in_doubt → ⊥ }
     ensures gone { Whole first retired → ⊥ }
     ensures newest_whole { Whole second retired }
+    ensures upgraded { Committed first upgraded }
+    ensures upgraded_whole { Whole first upgraded }
 {}
 
 /// What a name may hold, who is up, who holds a claim, and who has given a commit up.
@@ -54,11 +56,49 @@ pub fn door()
     ensures kept { IsFalse (given_up (incarnation 1 1) second.id marked) }
 {}
 
+/// Which incarnations of nodes are up or were fenced, which may come up next, by which claim a UUID is held, who has
+/// not given a commit up, and which UUIDs are forgotten.
+#[tactic(auto, unfolding(crate::proofs::Stored::stored_forms))]
+pub fn claims()
+    ensures up { up_now 1 begun ≡ Some 1 }
+    ensures not_up { up_now 2 begun ≡ None }
+    ensures fenced { up_now 1 holder_fenced ≡ None }
+    ensures greatest { greatest_fenced 1 holder_fenced ≡ 1 }
+    ensures none_fenced { greatest_fenced 1 begun ≡ 0 }
+    ensures next { next_inc 1 holder_fenced ≡ 2 }
+    ensures first_inc { next_inc 2 holder_fenced ≡ 1 }
+    ensures last { next_inc 1 last_fenced ≡ last_inc }
+    ensures place { claim_place (u 1) begun ≡ Some 4 }
+    ensures later_place { claim_place (u 1) claimed_again ≡ Some 8 }
+    ensures let_go { claim_place (u 1) ordinary ≡ None }
+    ensures fenced_place { claim_place (u 1) holder_fenced ≡ None }
+    ensures holds_out { holdout first.id half_given_up ≡ Some (incarnation 2 1) }
+    ensures least { holdout second.id half_given_up ≡ Some (incarnation 1 1) }
+    ensures none_holds_out { holdout first.id marked ≡ None }
+    ensures forgot { IsTrue (forgotten (u 1) forgot) }
+    ensures forget_failed { IsTrue (forgotten (u 1) forget_failed) }
+    ensures retired { IsFalse (forgotten (u 1) retired) }
+{}
+
+/// How a record is read in either format.
+#[tactic(auto, unfolding(crate::proofs::Stored::stored_forms))]
+pub fn formats()
+    ensures new { records_in (record_pair first) ≡ first ∷ [] }
+    ensures new_written { written_in (pair_of_record (written 1 2 (first.id ∷ []) second)) ≡ written 1 2 (first.id ∷ []) second ∷ [] }
+    ensures new_first { first_format_in (record_pair first) ≡ [] }
+    ensures old { records_in (old_record first) ≡ first ∷ [] }
+    ensures old_written { written_in (old_record first) ≡ [] }
+    ensures old_first { first_format_in (old_record first) ≡ first ∷ [] }
+    ensures of_the_office_alone { written_in (pair_of_record (written 0 1 [] first)) ≡ [] }
+    ensures neither { records_in (pair_of_record (written 0 1 [] first)) ≡ [] }
+{}
+
 /// Which stores are sound, and which name offends first.
 #[tactic(auto, unfolding(crate::proofs::Stored::stored_forms))]
 pub fn stores()
     ensures empty { Sound [] }
     ensures whole { Sound whole_first }
+    ensures old { Sound (old_record first ∷ version_pair x first.id ∷ version_pair y first.id ∷ []) }
     ensures marked { Sound (whole_both ++ full_pair first ∷ []) }
     ensures gone { Sound (done_pair first.id ∷ []) }
     ensures others { Sound (pair (codes "v/junk") (codes "junk") ∷ pair (codes "x") [] ∷ []) }
@@ -96,6 +136,7 @@ pub fn courses()
     ensures ordinary { KeepsCourse ordinary }
     ensures tried_again { KeepsCourse tried_again }
     ensures tried_legal { Legal tried_again }
+    ensures upgraded { KeepsCourse upgraded }
     ensures older_legal { Legal older_gets }
     ensures older_honest { Honest older_gets }
     ensures older_first { Committed first older_gets }

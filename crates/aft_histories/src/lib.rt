@@ -3,23 +3,24 @@
 #![tactic(auto)]
 
 mod boxes;
-mod causes;
+mod copies;
 mod doors;
 mod facts;
 mod honesty;
 mod office;
 mod refused;
 mod replies;
+mod stage;
 
 pub use boxes::{boxes_refused, legal_boxes};
-pub use causes::{
-    begins_caused, collections_caused, commits_caused, gets_caused, nodes_caused, rounds_caused,
-};
+pub use copies::{contents, cuts, taken};
 pub use doors::legal;
-pub use facts::{commits, courses, door, pages, stores};
+pub use facts::{claims, commits, courses, door, formats, pages, stores};
 pub use honesty::{dishonest, honest};
 pub use office::{collections_refused, legal_office, office_facts, posts_refused, rounds_refused};
-pub use refused::{callers_refused, collection_refused, openings_refused, puts_refused};
-pub use replies::{
-    finished_texts, replies_told_apart, round_texts, transaction_texts, value_texts,
+pub use refused::{
+    callers_refused, collection_refused, forgets_refused, openings_refused, orphans_refused,
+    puts_refused, upgrades_refused,
 };
+pub use replies::{replies_told_apart, round_texts, transaction_texts, value_texts};
+pub use stage::{bytes, orphans, retiring, stages};

@@ -4,17 +4,18 @@ ghost use Rattle.std.specs.Prelude.{◌≡◌, ◌+◌, [], ◌∷◌, length, S
 ghost use Rattle.std.specs.List.{list_all};
 ghost use Rattle.aft_model.specs.declared.office.OfficeAct.TheVariants.{Nothing, Round, Posted, Collecting, Collected};
 ghost use Rattle.aft_model.specs.declared.reply.Reply.TheVariants as reply;
-ghost use Rattle.aft_model.specs.Committed.{is_among, committed};
+ghost use Rattle.aft_records.specs.Commits.{is_among};
+ghost use Rattle.aft_model.specs.Committed.{committed};
 ghost use Rattle.aft_model.specs.LegalDoor.{Legal};
-ghost use Rattle.aft_model.specs.Office.{heard, runs, last_round, is_run_by, may_end_with, may_act, are_among, records_run, LegalOffice};
+ghost use Rattle.aft_model.specs.Office.{heard, runs, last_round, is_run_by, may_end_with, may_act, may_answer_alone, are_among, records_run, LegalOffice};
 ghost use Rattle.aft_model.specs.Replies.{is_silent, is_answer};
 ghost use Rattle.aft_model.specs.ScanRun.{is_scan_run};
 ghost use Rattle.aft_histories.specs.Entries.{first, second};
 ghost use Rattle.aft_histories.specs.Legal.{empty_opening, full_opening};
-ghost use Rattle.aft_histories.specs.Office.{third, three_committed, scanned, half_scanned, scanned_by_two, scanned_by_node, manager, another, sees, does, rounded, managed, not_posted, missed_both, collects, collected, OfficeRefuses, RoundRefused};
-ghost use Rattle.aft_histories.specs.Replies.{judged};
+ghost use Rattle.aft_histories.specs.Office.{third, three_committed, scanned, half_scanned, scanned_by_two, scanned_by_node, manager, another, sees, does, rounded, managed, not_posted, missed_both, collects, collected, answered_alone, OfficeRefuses, RoundRefused};
 
-/// A manager's round, with room in the boxes and without, and two collections.
+/// A manager's round, with room in the boxes and without, two collections, and the answers of a round of orphan
+/// versions and of a copy.
 #[tactic(auto, unfolding(crate::proofs::Stored::stored_forms))]
 pub fn legal_office()
     ensures door { Legal scanned }
@@ -25,6 +26,7 @@ pub fn legal_office()
     ensures missed_both { LegalOffice scanned missed_both }
     ensures collects { LegalOffice scanned collects }
     ensures collected { LegalOffice scanned collected }
+    ensures answered_alone { LegalOffice scanned answered_alone }
 {}
 
 /// Of which commits the office has heard, and whose collection runs.
@@ -78,5 +80,6 @@ pub fn collections_refused()
     ensures other_answer { OfficeRefuses (may_end_with (Some reply.Collecting)) scanned collects (does manager Collected (Some reply.Collecting)) }
     ensures begun_with_an_answer { OfficeRefuses (is_silent (Some reply.Collecting)) scanned [] (does manager Collecting (Some reply.Collecting)) }
     ensures nothing_without_answer { OfficeRefuses (may_act [] manager Nothing None) scanned [] (does manager Nothing None) }
+    ensures nothing_with_a_collection { OfficeRefuses (may_answer_alone (Some (reply.Collected []))) scanned [] (does manager Nothing (Some (reply.Collected []))) }
     ensures front_falls { OfficeRefuses (list_all (λ earlier. nat_le earlier.front 4) rounded) scanned rounded (sees 4 another Nothing (Some reply.NoMemory)) }
 {}

@@ -1,16 +1,15 @@
-//! The texts of replies, and of a run that was done.
+//! The texts of replies.
 
 ghost use Rattle.std.specs.Prelude.{◌≡◌, [], ◌∷◌, ◌++◌, codes, Some, None, IsTrue, IsFalse, not};
 ghost use Rattle.std.specs.List.{list_any, list_all};
 ghost use Rattle.aft_id.specs.TxnId.{zero_id};
 ghost use Rattle.aft_model.specs.declared.reply.Reply.TheVariants as reply;
 ghost use Rattle.aft_model.specs.declared.reply.Verdict.TheVariants as verdict;
-ghost use Rattle.aft_model.specs.FinishedText.{answers_of, printed};
 ghost use Rattle.aft_model.specs.History.{each_after};
 ghost use Rattle.aft_model.specs.Replies.{same_reply, is_answer, is_silent};
 ghost use Rattle.aft_model.specs.ReplyText.{reply_text};
 ghost use Rattle.aft_histories.specs.Entries.{u, x, y, first, second, record_of};
-ghost use Rattle.aft_histories.specs.Replies.{blocker, judged, one_of_each, others_of_some, line_by, asks_two, both_answered, answered_twice};
+ghost use Rattle.aft_histories.specs.Replies.{blocker, judged, one_of_each, others_of_some};
 
 /// The replies to the lines of a transaction.
 #[tactic(auto, unfolding(crate::proofs::Texts::texts))]
@@ -56,6 +55,14 @@ pub fn round_texts()
     ensures held_and_fault { reply_text (reply.Collected (judged first.id (verdict.Held 1 2) ∷ judged second.id verdict.Fault ∷ [])) ≡ codes "collected 1000-00000000-0000-0000-0000-000000000001 held 1 2 1001-00000000-0000-0000-0000-000000000003 fault" }
     ensures none_collected { reply_text (reply.Collected []) ≡ codes "collected" }
     ensures collecting { reply_text reply.Collecting ≡ codes "collecting" }
+    ensures forgot { reply_text (reply.Forgot first.id) ≡ codes "forgot 1000-00000000-0000-0000-0000-000000000001" }
+    ensures kept { reply_text (reply.Kept first.id) ≡ codes "kept 1000-00000000-0000-0000-0000-000000000001" }
+    ensures unknown { reply_text (reply.Unknown (u 1)) ≡ codes "unknown 00000000-0000-0000-0000-000000000001" }
+    ensures forgotten { reply_text (reply.Forgotten (u 1)) ≡ codes "forgotten 00000000-0000-0000-0000-000000000001" }
+    ensures orphans { reply_text (reply.Orphans 1 2 3 4) ≡ codes "orphans deleted 1 kept 2 held 3 fault 4" }
+    ensures too_many_versions { reply_text reply.TooManyVersions ≡ codes "too-many-versions" }
+    ensures copied { reply_text (reply.Copied 2 1) ≡ codes "copied 2 marked 1" }
+    ensures copying { reply_text reply.Copying ≡ codes "copying" }
 {}
 
 /// How a value is written: as it is, where it can be a word that doesn't begin with `#`.
@@ -83,14 +90,4 @@ pub fn replies_told_apart()
     ensures no_answer { IsFalse (is_answer reply.Absent None) }
     ensures silent { IsTrue (is_silent None) }
     ensures not_silent { IsFalse (is_silent (Some reply.Absent)) }
-{}
-
-/// What is printed for the lines of a script. A line that isn't answered exactly once prints nothing.
-#[tactic(auto, unfolding(crate::proofs::Texts::texts))]
-pub fn finished_texts()
-    ensures both { printed asks_two both_answered ≡ codes "1 1 value 1000-00000000-0000-0000-0000-000000000001 hi" ++ 10 ∷ codes "3 2 manager heard 0 missed 1" ++ 10 ∷ [] }
-    ensures of_line { answers_of (line_by 2 3) both_answered ≡ reply.Managed 0 1 ∷ [] }
-    ensures of_client { answers_of (line_by 1 3) both_answered ≡ [] }
-    ensures twice { answers_of (line_by 1 1) answered_twice ≡ reply.Absent ∷ reply.Absent ∷ [] }
-    ensures twice_printed { printed asks_two answered_twice ≡ codes "3 2 manager heard 0 missed 1" ++ 10 ∷ [] }
 {}

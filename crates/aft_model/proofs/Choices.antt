@@ -4,7 +4,7 @@ use Rattle.std.specs.Prelude.{IsTrue, IsFalse, Option, Some, None, map, filter, 
 use Rattle.std.specs.List.{list_any, list_all}
 use Rattle.std.specs.Str.{bytes_eq}
 use Rattle.std.proofs.lemmas.Bool.{and_parts, and_from, or_cases, or_left, or_right, not-true, true≢false, false_from_ne_true, cases_Bool}
-use Rattle.aft_id.specs.TxnId.{zero_id, id_lt}
+use Rattle.aft_id.specs.TxnId.{zero_id, id_lt, same_id}
 use Rattle.aft_id.specs.declared.txn_id.TxnId.{TxnId}
 use Rattle.aft_records.specs.Superseded.{wrote}
 use Rattle.aft_records.specs.declared.stored.Commit.{Commit}
@@ -15,11 +15,10 @@ use Rattle.aft_model.specs.declared.read_set.ReadPair.{ReadPair}
 use Rattle.aft_model.specs.Attempts.{is_read}
 use Rattle.aft_model.specs.AtomicReads.{Atomic, is_read_whole}
 use Rattle.aft_model.specs.Choice.{id_le, wrote_at, is_read_below, is_late_enough, is_not_blocked, fits, fitting, blockers, none_chosen, chosen, choice}
-use Rattle.aft_model.specs.Known.{greatest, versions}
-use Rattle.aft_model.specs.Readings.{same_id}
+use Rattle.aft_records.specs.Commits.{greatest, has_id, versions}
 use Rattle.aft_model.proofs.Greatest.{greatest_of_some}
 use Rattle.aft_model.proofs.Histories.{In, any_found, any_from, all_at}
-use Rattle.aft_model.proofs.Ids.{same_ids, same_id-refl, id_lt-irrefl, zero_least}
+use Rattle.aft_model.proofs.Ids.{same_ids, same_id-refl, id_lt-irrefl}
 use Rattle.aft_model.proofs.Lists.{all_from, none_at, none_snoc, in_snoc, in_filter, filter_in, in_map, map_in}
 use Rattle.aft_model.proofs.Sights.{same_bytes, bytes_eq-refl}
 
@@ -92,16 +91,12 @@ module _ (reads : List ReadPair) (known : List Commit) (atomic : Atomic reads kn
         | inr whole ↦ subst (λ (i : TxnId). IsTrue (list_all (λ k. not (is_read_below k i reads)) c.keys)) is whole
       ])
 
-  -- a key that no known commit wrote leaves reads atomic, at the zero id
-  pub absent_stays : (key : List ℕ) → IsFalse (list_any (wrote key) known) → Atomic (reads ++ record { key = key; id = zero_id } ∷ []) known
-  absent_stays key none =
+  -- a key that no known commit wrote leaves reads atomic, at the zero id, which is no known commit's
+  pub absent_stays : (key : List ℕ) → IsFalse (has_id zero_id known) → IsFalse (list_any (wrote key) known) → Atomic (reads ++ record { key = key; id = zero_id } ∷ []) known
+  absent_stays key unused none =
       atomic_snoc key zero_id
       (λ pair c read there is wrote_it. absurd (none_at (wrote key) c known there none wrote_it))
-      (λ c there is. all_from (λ k. not (is_read_below k c.id reads)) c.keys (λ k among.
-      ap not (false_from_ne_true (is_read_below k c.id reads) (λ below.
-      let found = any_found (λ (p : ReadPair). bytes_eq k p.key && id_lt p.id c.id) reads below in
-      let parts = and_parts (bytes_eq k found.0.key) (id_lt found.0.id c.id) found.2 in
-      true≢false (sym parts.1 ∙ subst (λ (i : TxnId). IsFalse (id_lt found.0.id i)) is (zero_least found.0.id))))))
+      (λ c there is. absurd (none_at (λ (d : Commit). same_id zero_id d.id) c known there unused (subst (λ (i : TxnId). IsTrue (same_id zero_id i)) is (same_id-refl zero_id))))
 
   -- ---- a read commit's keys
 

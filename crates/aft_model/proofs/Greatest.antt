@@ -5,7 +5,7 @@ use Rattle.std.specs.List.{fold}
 use Rattle.std.proofs.lemmas.Bool.{true≢false, false_from_ne_true}
 use Rattle.aft_id.specs.TxnId.{id_lt}
 use Rattle.aft_id.specs.declared.txn_id.TxnId.{TxnId}
-use Rattle.aft_model.specs.Known.{later, greatest}
+use Rattle.aft_records.specs.Commits.{later, greatest}
 use Rattle.aft_model.proofs.Histories.{In}
 use Rattle.aft_model.proofs.Ids.{id_lt-irrefl, id_lt-trans}
 

@@ -1,5 +1,5 @@
 -- What is true of a history and stays true with entries added.
-use Rattle.std.proofs.Common.{ℕ, Bool, true, ◌&&◌, List, [], ◌∷◌, ◌++◌, refl, inl, inr}
+use Rattle.std.proofs.Common.{ℕ, zero, suc, Bool, true, ◌&&◌, List, [], ◌∷◌, ◌++◌, drop, refl, inl, inr}
 use Rattle.std.specs.Prelude.{IsTrue}
 use Rattle.std.specs.List.{list_any, list_all, flat_map}
 use Rattle.std.proofs.lemmas.Bool.{and_parts, and_from, or_cases, or_left, or_right}
@@ -8,8 +8,10 @@ use Rattle.aft_id.specs.declared.txn_id.TxnId.{TxnId}
 use Rattle.aft_records.specs.declared.stored.Commit.{Commit}
 use Rattle.aft_model.specs.declared.door.DoorEntry.{DoorEntry}
 use Rattle.aft_records.specs.Superseded.{is_superseded}
-use Rattle.aft_model.specs.Committed.{committed, marked, is_among}
-use Rattle.aft_model.specs.DoorKnowledge.{found_unused, has_stored, knows_unused, knows_stored, knows_superseded, knows_marked, marked_then, shows_gone, knows_record_gone, has_deleted, knows_versions_gone}
+use Rattle.aft_model.specs.Committed.{committed, marked}
+use Rattle.aft_records.specs.Commits.{is_among}
+use Rattle.aft_model.specs.Claims.{forgotten}
+use Rattle.aft_model.specs.DoorKnowledge.{knows_short, knows_orphan, found_unused, has_stored, knows_unused, knows_stored, knows_superseded, knows_marked, marked_then, shows_gone, knows_record_gone, has_deleted, knows_versions_gone}
 use Rattle.aft_model.specs.History.{followed}
 use Rattle.aft_model.specs.Membership.{Incarnation}
 
@@ -95,3 +97,20 @@ has_deleted_grows c history more passed = all_implied _ _ (λ key. any_grows _ h
 
 pub versions_gone_grows : (id : TxnId) → Grows (knows_versions_gone id)
 versions_gone_grows id = marked_and_grows _ (λ c. and_grows _ _ (marked_then_grows _ c (has_deleted_grows c)))
+
+-- ---- forgetting, and orphan versions
+
+pub short_grows : (who : Incarnation) (uuid : List ℕ) → Grows (knows_short who uuid)
+short_grows who uuid = followed_grows _ _ (any_grows _)
+
+-- what grows behind the first entries grows
+dropped_grows : {A : Type 0} (test : List A → Bool) → Grows test → (n : ℕ) → Grows (λ xs. test (drop n xs))
+dropped_grows test grows zero xs ys passed = grows xs ys passed
+dropped_grows test grows (suc n) [] ys passed = grows [] (drop (suc n) ys) passed
+dropped_grows test grows (suc n) (x ∷ xs) ys passed = dropped_grows test grows n xs ys passed
+
+pub orphan_grows : (id : TxnId) (place : ℕ) → Grows (knows_orphan id place)
+orphan_grows id place = dropped_grows _ (followed_grows _ _ (any_grows _)) (suc place)
+
+pub forgotten_grows : (uuid : List ℕ) → Grows (forgotten uuid)
+forgotten_grows uuid = any_grows _

@@ -2,42 +2,23 @@
 use Rattle.std.proofs.Common.{◌≡◌, ◌∙◌, ℕ, List, [], ◌∷◌, ◌++◌, inl, inr, sym, ap, subst}
 use Rattle.std.specs.Prelude.{IsTrue, IsFalse}
 use Rattle.std.proofs.lemmas.Bool.{true≢false, false≢true}
-use Rattle.aft_id.specs.TxnId.{zero_id}
+use Rattle.aft_id.specs.TxnId.{zero_id, same_id}
 use Rattle.aft_id.specs.declared.txn_id.TxnId.{TxnId}
 use Rattle.aft_records.specs.Superseded.{Superseded}
 use Rattle.aft_records.specs.declared.stored.Commit.{Commit}
 use Rattle.aft_model.specs.declared.node.NodeEntry.{NodeEntry}
 use Rattle.aft_model.specs.Attempts.{is_pinned}
-use Rattle.aft_model.specs.Committed.{is_among}
-use Rattle.aft_model.specs.Known.{has_id, known_in, known_of, known, latest, latest_le}
+use Rattle.aft_records.specs.Commits.{is_among, has_id, latest, latest_le}
+use Rattle.aft_model.specs.Known.{known_in, known_of, known}
 use Rattle.aft_model.specs.LegalNode.{may_serve, may_follow_at, LegalNode}
 use Rattle.aft_model.specs.NodeState.{Service, NodeState, IsDown, IsBooting, IsServing, extended, node_state, newest, service_in, part_in, part, serves}
-use Rattle.aft_model.specs.Readings.{same_id}
 use Rattle.aft_model.proofs.Histories.{each_after_snoc, each_after_kept}
-use Rattle.aft_model.proofs.Knowledge.{OneEach, one_each_from, one_each_filter, one_each_extended, pinned_extended, Risen, risen_itself, risen_trans, risen_extended, latest_risen, Missed, missed_extended}
+use Rattle.aft_model.proofs.Knowledge.{pinned_extended, Risen, risen_itself, risen_trans, risen_extended, latest_risen, Missed, missed_extended}
 use Rattle.aft_model.proofs.Ids.{same_id-refl}
 use Rattle.aft_model.proofs.Pins.{Tracked, tracked_at_first, tracked_extended, pinned_known}
 use Rattle.aft_model.proofs.Services.{Moved, Serves, GoesDown, Begins, Waits, Boots, moved_by, served_on, serving, kept_within}
 
 -- ---- what a service knows
-
--- a node knows one commit of an id
-abbrev KnowsOneEach : NodeState → Type 0
-KnowsOneEach (IsServing s) = OneEach (known_in s)
-KnowsOneEach state = Unit {0}
-
-one_each_moved : (node capacity n : ℕ) (before : NodeState) (entry : NodeEntry) (after : NodeState) → Moved node capacity n before entry entry.act entry.answer after → KnowsOneEach before → KnowsOneEach after
-one_each_moved node capacity n before entry after (Serves s was rule is) one = subst KnowsOneEach (sym is) (one_each_extended s entry (subst KnowsOneEach was one))
-one_each_moved node capacity n before entry after (GoesDown is) one = subst KnowsOneEach (sym is) tt
-one_each_moved node capacity n before entry after (Begins inc by rule is) one = subst KnowsOneEach (sym is) tt
-one_each_moved node capacity n before entry after (Waits inc running still was is) one = subst KnowsOneEach (sym is) tt
-one_each_moved node capacity n before entry after (Boots inc commits boot once is) one = subst KnowsOneEach (sym is) (one_each_filter _ commits (one_each_from commits once))
-
-pub one_each_known : (node capacity : ℕ) (history : List NodeEntry) (s : Service) → LegalNode node capacity history → node_state history ≡ IsServing s → OneEach (known_in s)
-one_each_known node capacity history s legal is =
-    subst KnowsOneEach is
-    (each_after_kept (may_follow_at node capacity) (λ (h : List NodeEntry). KnowsOneEach (node_state h))
-    (λ h entry sofar rule one. one_each_moved node capacity (newest h) (node_state h) entry (node_state (h ++ entry ∷ [])) (moved_by node capacity h entry rule) one) [] history legal tt)
 
 -- a node's attempts and reads are tracked
 abbrev TracksReads : NodeState → Type 0
@@ -49,7 +30,7 @@ tracked_moved node capacity n before entry after (Serves s was rule is) tracked 
 tracked_moved node capacity n before entry after (GoesDown is) tracked = subst TracksReads (sym is) tt
 tracked_moved node capacity n before entry after (Begins inc by rule is) tracked = subst TracksReads (sym is) tt
 tracked_moved node capacity n before entry after (Waits inc running still was is) tracked = subst TracksReads (sym is) tt
-tracked_moved node capacity n before entry after (Boots inc commits boot once is) tracked = subst TracksReads (sym is) (tracked_at_first inc commits)
+tracked_moved node capacity n before entry after (Boots inc commits boot is) tracked = subst TracksReads (sym is) (tracked_at_first inc commits)
 
 tracked_reads : (node capacity : ℕ) (history : List NodeEntry) → LegalNode node capacity history → TracksReads (node_state history)
 tracked_reads node capacity history legal =
@@ -66,25 +47,25 @@ part-at history s is = ap (λ (state : NodeState). part_in (service_in state)) i
 
 module _ (node capacity inc : ℕ) (history more : List NodeEntry) (legal : LegalNode node capacity (history ++ more))
     (serve : IsTrue (serves inc (node_state history))) (still : IsTrue (serves inc (node_state (history ++ more)))) where
-  -- what each entry keeps, of a service that knows one commit of an id, stays as long as the incarnation serves
+  -- what each entry keeps stays as long as the incarnation serves
   known_within : (P : List Commit → Type 0)
-      → ((s : Service) (entry : NodeEntry) → IsTrue (may_serve node capacity entry.act entry.answer s) → OneEach (known_in s) → P (known_in s) → P (known_in (extended s entry)))
+      → ((s : Service) (entry : NodeEntry) → IsTrue (may_serve node capacity entry.act entry.answer s) → P (known_in s) → P (known_in (extended s entry)))
       → P (known history) → P (known (history ++ more))
   known_within P step holds =
       let began = serving inc (node_state history) serve in
-      let kept = kept_within node capacity inc (λ (s : Service). P (known_in s)) (λ h s entry sofar is rule one. step s entry rule (one_each_known node capacity h s sofar is) one)
+      let kept = kept_within node capacity inc (λ (s : Service). P (known_in s)) (λ h s entry sofar is rule holds. step s entry rule holds)
       history more began.0 legal began.1 began.2 (subst P (known-at history began.0 began.1) holds) still in
       subst P (sym (known-at (history ++ more) kept.0 kept.1)) kept.2
 
   pub greatest_stays : (key : List ℕ) → IsTrue (latest_le (latest key (known history)) (latest key (known (history ++ more))))
   greatest_stays key =
       latest_risen key (known history) (known (history ++ more))
-      (known_within (Risen (known history)) (λ s entry rule one risen. risen_trans (known history) (known_in s) (known_in (extended s entry)) risen (risen_extended node capacity s entry rule one))
+      (known_within (Risen (known history)) (λ s entry rule risen. risen_trans (known history) (known_in s) (known_in (extended s entry)) risen (risen_extended node capacity s entry rule))
       (risen_itself (known history)))
 
   pub superseded_stays_unknown : (c : Commit) → IsFalse (is_among c (known history)) → Superseded c (known history) → IsFalse (is_among c (known (history ++ more)))
   superseded_stays_unknown c unknown superseded =
-      (known_within (Missed c) (λ s entry rule one missed. missed_extended node capacity s entry c rule one missed) (unknown, superseded)).0
+      (known_within (Missed c) (λ s entry rule missed. missed_extended node capacity s entry c rule missed) (unknown, superseded)).0
 
 pub pinned_stays : (node capacity inc : ℕ) (id : TxnId) (history : List NodeEntry) (entry : NodeEntry) → LegalNode node capacity (history ++ entry ∷ [])
     → IsTrue (serves inc (node_state history)) → IsTrue (serves inc (node_state (history ++ entry ∷ []))) → IsTrue (is_pinned id (part history)) → IsTrue (has_id id (known history))

@@ -1,11 +1,11 @@
 -- What a node knows, from entry to entry of a service: a key's greatest id never falls, and what is pinned stays.
-use Rattle.std.proofs.Common.{◌≡◌, ℕ, Bool, true, false, ◌||◌, ◌&&◌, not, List, [], ◌∷◌, ◌++◌, length, refl, sym, ap, subst, ◌∙◌, inl, inr, eqb}
+use Rattle.std.proofs.Common.{◌≡◌, ℕ, Bool, true, false, ◌||◌, ◌&&◌, not, List, [], ◌∷◌, length, refl, sym, ap, subst, ◌∙◌, ◌⊎◌, inl, inr, eqb}
 use Rattle.std.specs.Prelude.{IsTrue, IsFalse, Option, Some, None, filter, if◌then◌else◌}
 use Rattle.std.specs.List.{list_any, list_all}
 use Rattle.std.specs.Str.{bytes_eq}
 use Rattle.std.proofs.lemmas.Bool.{and_parts, and_from, or_parts, not-true, true≢false, false_from_ne_true}
 use Rattle.std.proofs.lemmas.List.Sums.{fold-append}
-use Rattle.aft_id.specs.TxnId.{id_lt}
+use Rattle.aft_id.specs.TxnId.{id_lt, same_id}
 use Rattle.aft_id.specs.declared.txn_id.TxnId.{TxnId}
 use Rattle.aft_records.specs.Superseded.{wrote, is_superseded}
 use Rattle.aft_records.specs.declared.stored.Commit.{Commit}
@@ -14,86 +14,105 @@ use Rattle.aft_model.specs.declared.node.NodeAct.TheVariants.{Stored, Learn, Dro
 use Rattle.aft_model.specs.declared.node.NodeEntry.{NodeEntry}
 use Rattle.aft_model.specs.declared.reply.Reply.{Reply}
 use Rattle.aft_model.specs.Attempts.{is_pinned}
-use Rattle.aft_model.specs.Committed.{is_among}
-use Rattle.aft_model.specs.Known.{has_id, has_each_id_once, is_listed, with_commit, known_after, unsuperseded, known_in, versions, latest, latest_le, droppable}
+use Rattle.aft_records.specs.Commits.{is_among, has_id, is_listed, ids_of, ids_ascend, with_id_order, with_commit, first_known, versions, latest, latest_le, same_commit}
+use Rattle.aft_model.specs.Known.{known_after, known_in, known_of, known, droppable}
 use Rattle.aft_model.specs.LegalNode.{may_serve}
 use Rattle.aft_model.specs.NodeRules.{are_ids_of}
-use Rattle.aft_model.specs.NodeState.{Service, extended}
-use Rattle.aft_model.specs.Readings.{same_id, same_commit}
+use Rattle.aft_model.specs.NodeState.{Service, extended, service}
+use Rattle.aft_records.proofs.CommitOrder.{with_ascends, learned_ascends, without_ascends, first_ascends}
 use Rattle.aft_model.proofs.Greatest.{greatest_of_some, greatest_among}
 use Rattle.aft_model.proofs.Growth.{all_implied}
-use Rattle.aft_model.proofs.Histories.{In, in_front, any_found, any_from, all_at}
+use Rattle.aft_model.proofs.Histories.{In, any_found, any_from, all_at}
 use Rattle.aft_model.proofs.Ids.{same_ids, same_commits, same_id-refl, id_lt-irrefl, id_lt-le, id_le-trans}
-use Rattle.aft_model.proofs.Lists.{none_at, none_snoc, in_snoc, in_filter, filter_in, in_map, map_in, fold_kept}
+use Rattle.aft_model.proofs.Lists.{none_at, in_filter, filter_in, in_map, map_in, fold_kept}
 use Rattle.aft_model.proofs.Sights.{same_bytes}
 
 -- ---- lists of commits
 
 -- commits of one id are the same
-abbrev pub OneEach : List Commit → Type 0
+abbrev OneEach : List Commit → Type 0
 OneEach commits = (c d : Commit) → In c commits → In d commits → c.id ≡ d.id → c ≡ d
 
 -- a commit among some has its id there
 pub has_there : (id : TxnId) (c : Commit) (commits : List Commit) → In c commits → id ≡ c.id → IsTrue (has_id id commits)
 has_there id c commits among is = any_from (λ (d : Commit). same_id id d.id) c commits among (subst (λ (i : TxnId). IsTrue (same_id id i)) is (same_id-refl id))
 
-pub one_each_from : (commits : List Commit) → IsTrue (has_each_id_once commits) → OneEach commits
-one_each_from [] once c d of_c of_d same = absurd of_c
-one_each_from (x ∷ xs) once c d (inl c_is) (inl d_is) same = c_is ∙ sym d_is
-one_each_from (x ∷ xs) once c d (inl c_is) (inr d_later) same =
-    let parts = and_parts (not (has_id x.id xs)) (has_each_id_once xs) once in
-    absurd (true≢false (sym (has_there x.id d xs d_later (ap (λ (e : Commit). e.id) (sym c_is) ∙ same)) ∙ not-true (has_id x.id xs) parts.0))
-one_each_from (x ∷ xs) once c d (inr c_later) (inl d_is) same =
-    let parts = and_parts (not (has_id x.id xs)) (has_each_id_once xs) once in
-    absurd (true≢false (sym (has_there x.id c xs c_later (ap (λ (e : Commit). e.id) (sym d_is) ∙ sym same)) ∙ not-true (has_id x.id xs) parts.0))
-one_each_from (x ∷ xs) once c d (inr c_later) (inr d_later) same =
-    let parts = and_parts (not (has_id x.id xs)) (has_each_id_once xs) once in
-    one_each_from xs parts.1 c d c_later d_later same
+-- a commit behind one in id order has another id
+apart_above : (x : Commit) (xs : List Commit) → IsTrue (ids_ascend (x ∷ xs)) → (d : Commit) → In d xs → x.id ≡ d.id → ⊥
+apart_above x xs up d later same =
+    let parts = and_parts (list_all (id_lt x.id) (ids_of xs)) (ids_ascend xs) up in
+    let above = all_at (id_lt x.id) d.id (ids_of xs) (map_in (λ (e : Commit). e.id) d xs later) parts.0 in
+    true≢false (sym (subst (λ (i : TxnId). IsTrue (id_lt x.id i)) (sym same) above) ∙ id_lt-irrefl x.id)
 
-pub one_each_filter : (test : Commit → Bool) (commits : List Commit) → OneEach commits → OneEach (filter test commits)
-one_each_filter test commits one c d of_c of_d = one c d (in_filter test c commits of_c).0 (in_filter test d commits of_d).0
+-- commits that ascend by id have each id once
+one_each_from : (commits : List Commit) → IsTrue (ids_ascend commits) → OneEach commits
+one_each_from [] up c d of_c of_d same = absurd of_c
+one_each_from (x ∷ xs) up c d (inl c_is) (inl d_is) same = c_is ∙ sym d_is
+one_each_from (x ∷ xs) up c d (inl c_is) (inr d_later) same = absurd (apart_above x xs up d d_later (ap (λ (e : Commit). e.id) (sym c_is) ∙ same))
+one_each_from (x ∷ xs) up c d (inr c_later) (inl d_is) same = absurd (apart_above x xs up c c_later (ap (λ (e : Commit). e.id) (sym d_is) ∙ sym same))
+one_each_from (x ∷ xs) up c d (inr c_later) (inr d_later) same =
+    one_each_from xs (and_parts (list_all (id_lt x.id) (ids_of xs)) (ids_ascend xs) up).1 c d c_later d_later same
+
+-- what is known ascends by id
+ascends_after : (known : List Commit) (act : NodeAct) → IsTrue (ids_ascend known) → IsTrue (ids_ascend (known_after known act))
+ascends_after known (Learn commits) up = learned_ascends known commits up
+ascends_after known (Stored a c) up = with_ascends known c up
+ascends_after known (Drop ids) up = without_ascends ids known up
+ascends_after known act up = up
+
+known_in_ascends : (s : Service) → IsTrue (ids_ascend (known_in s))
+known_in_ascends s =
+    fold_kept (λ (before : List Commit) (e : NodeEntry). known_after before e.act) (λ commits. IsTrue (ids_ascend commits)) (λ before e up. ascends_after before e.act up)
+    (first_known s.booted) s.part (first_ascends s.booted)
+
+pub known_ascends : (history : List NodeEntry) → IsTrue (ids_ascend (known history))
+known_ascends history = cases (service history)
+  where
+    cases : (o : Option Service) → IsTrue (ids_ascend (known_of o))
+    cases None = refl
+    cases (Some s) = known_in_ascends s
+
+one_each_in : (s : Service) → OneEach (known_in s)
+one_each_in s = one_each_from (known_in s) (known_in_ascends s)
+
+-- ---- a commit more
 
 -- a commit that joins the known ones, or doesn't
-with_cases : (P : List Commit → Type 0) (known : List Commit) (c : Commit) → P known → (IsFalse (has_id c.id known) → IsFalse (is_superseded c known) → P (known ++ c ∷ [])) → P (with_commit known c)
+with_cases : (P : List Commit → Type 0) (known : List Commit) (c : Commit) → P known → (IsFalse (has_id c.id known) → IsFalse (is_superseded c known) → P (with_id_order known c)) → P (with_commit known c)
 with_cases P known c stays joins = cases (has_id c.id known || is_superseded c known) refl
   where
-    cases : (t : Bool) → (has_id c.id known || is_superseded c known) ≡ t → P (if t then known else known ++ c ∷ [])
+    cases : (t : Bool) → (has_id c.id known || is_superseded c known) ≡ t → P (if t then known else with_id_order known c)
     cases true out = stays
     cases false new = let parts = or_parts (has_id c.id known) (is_superseded c known) new in joins parts.0 parts.1
 
-one_each_with : (known : List Commit) (c : Commit) → OneEach known → OneEach (with_commit known c)
-one_each_with known c one = with_cases OneEach known c one (λ new kept. joined new)
+-- a commit in its place leaves those that were there, and is the only new one
+placed_stays : (d : Commit) (known : List Commit) (c : Commit) → In d known → In d (with_id_order known c)
+placed_stays d [] c among = absurd among
+placed_stays d (e ∷ known) c among = cases (placed_stays d known c) (id_lt c.id e.id)
   where
-    joined : IsFalse (has_id c.id known) → OneEach (known ++ c ∷ [])
-    joined new d e of_d of_e same =
-        elim (in_snoc d known c of_d) [
-          | inl d_there ↦ elim (in_snoc e known c of_e) [
-            | inl e_there ↦ one d e d_there e_there same
-            | inr e_is ↦ absurd (true≢false (sym (has_there c.id d known d_there (ap (λ (f : Commit). f.id) (sym e_is) ∙ sym same)) ∙ new))
-          ]
-          | inr d_is ↦ elim (in_snoc e known c of_e) [
-            | inl e_there ↦ absurd (true≢false (sym (has_there c.id e known e_there (ap (λ (f : Commit). f.id) (sym d_is) ∙ same)) ∙ new))
-            | inr e_is ↦ d_is ∙ sym e_is
-          ]
-        ]
+    cases : (In d known → In d (with_id_order known c)) → (t : Bool) → In d (if t then c ∷ e ∷ known else e ∷ with_id_order known c)
+    cases rest true = inr among
+    cases rest false = elim among [ inl here ↦ inl here | inr later ↦ inr (rest later) ]
+
+placed_new : (d : Commit) (known : List Commit) (c : Commit) → In d (with_id_order known c) → In d known ⊎ (d ≡ c)
+placed_new d [] c (inl here) = inr here
+placed_new d [] c (inr nowhere) = absurd nowhere
+placed_new d (e ∷ known) c among = cases (placed_new d known c) (id_lt c.id e.id) among
+  where
+    cases : (In d (with_id_order known c) → In d known ⊎ (d ≡ c)) → (t : Bool) → In d (if t then c ∷ e ∷ known else e ∷ with_id_order known c) → In d (e ∷ known) ⊎ (d ≡ c)
+    cases rest true (inl here) = inr here
+    cases rest true (inr later) = inl later
+    cases rest false (inl here) = inl (inl here)
+    cases rest false (inr later) = elim (rest later) [ inl was ↦ inl (inr was) | inr is ↦ inr is ]
 
 -- what joins the known ones leaves those that were there
 stays_with : (d : Commit) (known : List Commit) (c : Commit) → In d known → In d (with_commit known c)
-stays_with d known c among = with_cases (In d) known c among (λ new kept. in_front d known (c ∷ []) among)
+stays_with d known c among = with_cases (In d) known c among (λ new kept. placed_stays d known c among)
 
 -- ---- each act
 
-one_each_after : (known : List Commit) (act : NodeAct) → OneEach known → OneEach (known_after known act)
-one_each_after known (Learn commits) one = fold_kept with_commit OneEach one_each_with known commits one
-one_each_after known (Stored a c) one = one_each_with known c one
-one_each_after known (Drop ids) one = one_each_filter (λ (c : Commit). not (is_listed c.id ids)) known one
-one_each_after known act one = one
-
 pub known_in-extended : (s : Service) (entry : NodeEntry) → known_in (extended s entry) ≡ known_after (known_in s) entry.act
-known_in-extended s entry = fold-append (λ (before : List Commit) (e : NodeEntry). known_after before e.act) (unsuperseded s.booted) s.part (entry ∷ [])
-
-pub one_each_extended : (s : Service) (entry : NodeEntry) → OneEach (known_in s) → OneEach (known_in (extended s entry))
-one_each_extended s entry one = subst OneEach (sym (known_in-extended s entry)) (one_each_after (known_in s) entry.act one)
+known_in-extended s entry = fold-append (λ (before : List Commit) (e : NodeEntry). known_after before e.act) (first_known s.booted) s.part (entry ∷ [])
 
 -- a dropped id is that of a known commit that is superseded and not pinned
 dropped : (s : Service) (ids : List TxnId) (id : TxnId) → IsTrue (are_ids_of (droppable s) ids) → IsTrue (is_listed id ids)
@@ -169,23 +188,23 @@ greatest_one key id known (d, among, wrote_it, least) =
       greatest_kept key found.0 known there.1 highest,
     )
 
-risen_after : (node capacity : ℕ) (s : Service) (act : NodeAct) (answer : Option Reply) → IsTrue (may_serve node capacity act answer s) → OneEach (known_in s) → Risen (known_in s) (known_after (known_in s) act)
-risen_after node capacity s (Learn commits) answer rule one = risen_more _ _ (λ c among. fold_kept with_commit (In c) (stays_with c) (known_in s) commits among)
-risen_after node capacity s (Stored a d) answer rule one = risen_more _ _ (λ c among. stays_with c (known_in s) d among)
-risen_after node capacity s (Drop ids) answer rule one = λ key id reached.
+risen_after : (node capacity : ℕ) (s : Service) (act : NodeAct) (answer : Option Reply) → IsTrue (may_serve node capacity act answer s) → Risen (known_in s) (known_after (known_in s) act)
+risen_after node capacity s (Learn commits) answer rule = risen_more _ _ (λ c among. fold_kept with_commit (In c) (stays_with c) (known_in s) commits among)
+risen_after node capacity s (Stored a d) answer rule = risen_more _ _ (λ c among. stays_with c (known_in s) d among)
+risen_after node capacity s (Drop ids) answer rule = λ key id reached.
     let top = greatest_one key id (known_in s) reached in (
       top.0,
       filter_in (λ (d : Commit). not (is_listed d.id ids)) top.0 (known_in s) top.1 (ap not (false_from_ne_true (is_listed top.0.id ids) (λ listed.
           let d = dropped s ids top.0.id (and_parts (are_ids_of (droppable s) ids) _ rule).0 listed in
-          true≢false (sym (subst (λ (e : Commit). IsTrue (is_superseded e (known_in s))) (sym (one top.0 d.0 top.1 d.1 d.2)) d.3) ∙ top.4)))),
+          true≢false (sym (subst (λ (e : Commit). IsTrue (is_superseded e (known_in s))) (sym (one_each_in s top.0 d.0 top.1 d.1 d.2)) d.3) ∙ top.4)))),
       top.2,
       top.3,
     )
-risen_after node capacity s act answer rule one = risen_itself (known_in s)
+risen_after node capacity s act answer rule = risen_itself (known_in s)
 
-pub risen_extended : (node capacity : ℕ) (s : Service) (entry : NodeEntry) → IsTrue (may_serve node capacity entry.act entry.answer s) → OneEach (known_in s) → Risen (known_in s) (known_in (extended s entry))
-risen_extended node capacity s entry rule one =
-    subst (Risen (known_in s)) (sym (known_in-extended s entry)) (risen_after node capacity s entry.act entry.answer rule one)
+pub risen_extended : (node capacity : ℕ) (s : Service) (entry : NodeEntry) → IsTrue (may_serve node capacity entry.act entry.answer s) → Risen (known_in s) (known_in (extended s entry))
+risen_extended node capacity s entry rule =
+    subst (Risen (known_in s)) (sym (known_in-extended s entry)) (risen_after node capacity s entry.act entry.answer rule)
 
 -- greatest ids that rise
 pub latest_risen : (key : List ℕ) (before after : List Commit) → Risen before after → IsTrue (latest_le (latest key before) (latest key after))
@@ -221,8 +240,12 @@ Missed c known = IsFalse (is_among c known) × IsTrue (is_superseded c known)
 missed_with : (c : Commit) (known : List Commit) (d : Commit) → Missed c known → Missed c (with_commit known d)
 missed_with c known d missed = (
   with_cases (λ commits. IsFalse (is_among c commits)) known d missed.0 (λ new kept.
-      none_snoc (same_commit c) known d missed.0 (false_from_ne_true (same_commit c d) (λ same.
-      true≢false (sym (subst (λ (e : Commit). IsTrue (is_superseded e known)) (same_commits c d same) missed.1) ∙ kept)))),
+      false_from_ne_true (is_among c (with_id_order known d)) (λ there.
+      let found = any_found (same_commit c) (with_id_order known d) there in
+      elim (placed_new found.0 known d found.1) [
+        | inl was ↦ none_at (same_commit c) found.0 known was missed.0 found.2
+        | inr is ↦ true≢false (sym (subst (λ (e : Commit). IsTrue (is_superseded e known)) (same_commits c found.0 found.2 ∙ is) missed.1) ∙ kept)
+      ])),
   superseded_risen c known (with_commit known d) (risen_more known (with_commit known d) (λ e among. stays_with e known d among)) missed.1,
 )
 
@@ -235,8 +258,8 @@ unknown_after node capacity s (Drop ids) answer c missed =
     none_at (same_commit c) found.0 (known_in s) (in_filter (λ (d : Commit). not (is_listed d.id ids)) found.0 (known_in s) found.1).0 missed.0 found.2)
 unknown_after node capacity s act answer c missed = missed.0
 
-pub missed_extended : (node capacity : ℕ) (s : Service) (entry : NodeEntry) (c : Commit) → IsTrue (may_serve node capacity entry.act entry.answer s) → OneEach (known_in s) → Missed c (known_in s) → Missed c (known_in (extended s entry))
-missed_extended node capacity s entry c rule one missed = (
+pub missed_extended : (node capacity : ℕ) (s : Service) (entry : NodeEntry) (c : Commit) → IsTrue (may_serve node capacity entry.act entry.answer s) → Missed c (known_in s) → Missed c (known_in (extended s entry))
+missed_extended node capacity s entry c rule missed = (
   subst (λ commits. IsFalse (is_among c commits)) (sym (known_in-extended s entry)) (unknown_after node capacity s entry.act entry.answer c missed),
-  superseded_risen c (known_in s) (known_in (extended s entry)) (risen_extended node capacity s entry rule one) missed.1,
+  superseded_risen c (known_in s) (known_in (extended s entry)) (risen_extended node capacity s entry rule) missed.1,
 )

@@ -6,6 +6,9 @@ pub mod OneCommit
 pub mod Turns
 pub mod Honesty
 pub mod CommitsOnce
+pub mod Formats
+pub mod Places
+pub mod StagesCourse
 pub mod Lists
 pub mod Ids
 pub mod Greatest
@@ -15,4 +18,3 @@ pub mod Knowledge
 pub mod Incarnations
 pub mod Pins
 pub mod Newest
-pub mod Exactness

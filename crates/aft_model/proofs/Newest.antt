@@ -8,7 +8,7 @@ use Rattle.aft_id.specs.TxnId.{id_lt}
 use Rattle.aft_id.specs.declared.txn_id.TxnId.{TxnId}
 use Rattle.aft_records.specs.Superseded.{wrote, is_superseded}
 use Rattle.aft_records.specs.declared.stored.Commit.{Commit}
-use Rattle.aft_model.specs.Known.{versions, latest}
+use Rattle.aft_records.specs.Commits.{versions, latest}
 use Rattle.aft_model.proofs.Greatest.{greatest_of_some}
 use Rattle.aft_model.proofs.Histories.{any_found, all_at}
 use Rattle.aft_model.proofs.Lists.{filter_in, map_in}

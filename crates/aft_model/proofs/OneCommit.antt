@@ -15,15 +15,16 @@ use Rattle.aft_model.specs.declared.door.DoorAct.{DoorAct}
 use Rattle.aft_model.specs.declared.door.DoorAct.TheVariants.{Call, Claim, Release}
 use Rattle.aft_model.specs.declared.door.DoorEntry.{DoorEntry}
 use Rattle.aft_model.specs.Claims.{is_held_by, claimant_after, claimant}
-use Rattle.aft_model.specs.Committed.{has_uuid, committed_by, committed}
-use Rattle.aft_model.specs.Course.{puts_record, is_delete}
-use Rattle.aft_model.specs.DoorKnowledge.{finds_absent}
+use Rattle.aft_records.specs.Commits.{has_uuid}
+use Rattle.aft_model.specs.Committed.{committed_by, committed}
+use Rattle.aft_model.specs.Course.{puts_record}
+use Rattle.aft_model.specs.DoorKnowledge.{finds_absent, is_delete}
 use Rattle.aft_model.specs.Evidence.{shown, shown_in}
 use Rattle.aft_model.specs.History.{followed}
 use Rattle.aft_model.specs.Honest.{may_be, agrees}
 use Rattle.aft_model.specs.LegalDoor.{is_answered}
 use Rattle.aft_model.specs.MayHold.{MayHold, Unknown, OneOf, or_else, seen, after_act, may_hold}
-use Rattle.aft_model.specs.Membership.{Incarnation, same_incarnation}
+use Rattle.aft_model.specs.Membership.{Incarnation, incarnation, same_incarnation, the_office}
 use Rattle.aft_model.specs.Readings.{record_name}
 use Rattle.aft_model.proofs.Histories.{In, in_append, in_flat_map_snoc, any_found, any_from, followed_snoc}
 use Rattle.aft_model.proofs.Sights.{Effect, same_bytes, bytes_eq-refl, read-one, given, commits_at, Wrote, effect}
@@ -156,11 +157,19 @@ module _ (uuid : List ℕ) where
       }
   found_absent who before act found = absurd (false≢true found)
 
-  -- whoever puts a record of the UUID holds it, and has found none and put none since
+  -- an incarnation holds the UUID, and has found no record of it and put none since
+  abbrev pub MayPut : Incarnation → List DoorEntry → Type 0
+  MayPut who history = IsTrue (is_clear who history) × IsTrue (is_held_by who (claimant uuid history))
+
+  -- the office puts the record of a commit again
+  abbrev pub PutsAgain : Incarnation → List DoorEntry → Commit → Type 0
+  PutsAgain who history d = IsTrue (same_incarnation the_office who) × In d (committed history)
+
+  -- a record of the UUID is put by who may, or put again
   abbrev pub PutsWhenClear : List DoorEntry → DoorAct → Type 0
   PutsWhenClear history act = (node inc : ℕ) (bytes : List ℕ) (answer : KeeperAnswer) → act ≡ Call node inc (Put (record_name uuid) bytes) answer
       → (d : Commit) → In d (commits_at uuid (Some bytes)) → d.id.uuid ≡ uuid
-      → IsTrue (is_clear (record { node = node; inc = inc }) history) × IsTrue (is_held_by (record { node = node; inc = inc }) (claimant uuid history))
+      → MayPut (incarnation node inc) history ⊎ PutsAgain (incarnation node inc) history d
 
   module _ (history : List DoorEntry) (entry : DoorEntry) (before : Once history)
       (honest : IsTrue (agrees (may_hold (record_name uuid) history) (shown (record_name uuid) entry))) (due : PutsWhenClear history entry.act) where
@@ -173,9 +182,13 @@ module _ (uuid : List ℕ) where
     seen_has : (P : Option (List ℕ) → Type 0) (o : Option (List ℕ)) → shown_in (record_name uuid) entry.act ≡ Some o → Surely P may → P o
     seen_has P o sight all = shown_has P may o (subst (λ s. IsTrue (agrees may s)) sight honest) all
 
-    -- a put of the UUID's record finds it unrecorded
-    wrote_free : (w : Wrote uuid may entry.act) (d : Commit) → In d (commits_at uuid (Some w.bytes)) → d.id.uuid ≡ uuid → Unrecorded history × Surely Free may
-    wrote_free w d a of = let turn = due w.node w.inc w.bytes w.answer w.is d a of in before.free (record { node = w.node; inc = w.inc }) turn.0 turn.1
+    -- a put of the UUID's record finds it unrecorded, or is of the commit that was committed
+    wrote_one : (w : Wrote uuid may entry.act) (c d : Commit) → In c (committed history) → c.id.uuid ≡ uuid → In d (commits_at uuid (Some w.bytes)) → d.id.uuid ≡ uuid → c ≡ d
+    wrote_one w c d in_c of_c a of_d =
+        elim (due w.node w.inc w.bytes w.answer w.is d a of_d) [
+          | inl turn ↦ absurd ((before.free (incarnation w.node w.inc) turn.0 turn.1).0 c in_c of_c)
+          | inr again ↦ before.one c d in_c again.1 of_c of_d
+        ]
 
     -- what an entry proves beside a commit that was proved before it
     beside : (c d : Commit) → Effect uuid may entry.act
@@ -183,7 +196,7 @@ module _ (uuid : List ℕ) where
     beside c d (inl quiet) in_c in_d of_c of_d = absurd (quiet.nothing d in_d of_d)
     beside c d (inr (inl s)) in_c in_d of_c of_d =
         sym (only_gives s.outcome c d (seen_has (Only c) s.outcome s.sight (before.kept c in_c of_c)) (s.from_it d in_d of_d) of_d)
-    beside c d (inr (inr w)) in_c in_d of_c of_d = absurd ((wrote_free w d (w.from_it d in_d of_d) of_d).0 c in_c of_c)
+    beside c d (inr (inr w)) in_c in_d of_c of_d = wrote_one w c d in_c of_c (w.from_it d in_d of_d) of_d
 
     together : (c d : Commit) → Effect uuid may entry.act
         → In c (given entry.act) → In d (given entry.act) → c.id.uuid ≡ uuid → d.id.uuid ≡ uuid → c ≡ d
@@ -204,7 +217,7 @@ module _ (uuid : List ℕ) where
     kept_old c (inr (inl s)) in_c of =
         subst (Surely (Only c)) (sym s.after) (Surely-one (Only c) s.outcome (seen_has (Only c) s.outcome s.sight (before.kept c in_c of)))
     kept_old c (inr (inr w)) in_c of =
-        Surely-wrote (Only c) w (before.kept c in_c of) (λ d a of_d. absurd ((wrote_free w d a of_d).0 c in_c of))
+        Surely-wrote (Only c) w (before.kept c in_c of) (λ d a of_d. sym (wrote_one w c d in_c of a of_d))
 
     kept_new : (c : Commit) → Effect uuid may entry.act
         → In c (given entry.act) → c.id.uuid ≡ uuid → Surely (Only c) (after_act (record_name uuid) may entry.act)
@@ -218,20 +231,20 @@ module _ (uuid : List ℕ) where
 
     -- an incarnation that found no record before, and did nothing that changes it
     still_free : (who : Incarnation) → Effect uuid may entry.act
-        → IsTrue (is_held_by who (claimant uuid history)) → IsFalse (puts_record who uuid entry.act) → Surely Free may
+        → IsTrue (is_held_by who (claimant uuid history)) → IsFalse (puts_record who uuid entry.act) → Unrecorded history → Surely Free may
         → ((d : Commit) → In d (given entry.act) → d.id.uuid ≡ uuid → ⊥) × Surely Free (after_act (record_name uuid) may entry.act)
-    still_free who (inl quiet) held put_none all = (quiet.nothing, subst (Surely Free) (sym quiet.same) all)
-    still_free who (inr (inl s)) held put_none all =
+    still_free who (inl quiet) held put_none was all = (quiet.nothing, subst (Surely Free) (sym quiet.same) all)
+    still_free who (inr (inl s)) held put_none was all =
         let free : Free s.outcome = seen_has Free s.outcome s.sight all in
         (λ d a of. free d (s.from_it d a of) of, subst (Surely Free) (sym s.after) (Surely-one Free s.outcome free))
-    still_free who (inr (inr w)) held put_none all =
-        let free : Free (Some w.bytes) = λ d a of.
-        let turn = due w.node w.inc w.bytes w.answer w.is d a of in
-        let it : record { node = w.node; inc = w.inc } ≡ who = held_same (record { node = w.node; inc = w.inc }) who (claimant uuid history) turn.1 held in
+    still_free who (inr (inr w)) held put_none was all =
+        let mine : (d : Commit) → In d (commits_at uuid (Some w.bytes)) → d.id.uuid ≡ uuid → MayPut (incarnation w.node w.inc) history → ⊥ = λ d a of turn.
+        let it : incarnation w.node w.inc ≡ who = held_same (incarnation w.node w.inc) who (claimant uuid history) turn.1 held in
         let there : IsTrue (list_any (has_uuid uuid) (commits_at uuid (Some w.bytes))) = any_from (has_uuid uuid) d (commits_at uuid (Some w.bytes)) a (subst (λ u. IsTrue (bytes_eq uuid u)) (sym of) (bytes_eq-refl uuid)) in
         let puts : IsTrue (puts_record who uuid entry.act) =
         subst (λ act. IsTrue (puts_record who uuid act)) (sym w.is) (and_from _ _ (subst (λ (i : Incarnation). IsTrue (same_incarnation who i)) (sym it) (same_itself who)) there) in
         both_ways (puts_record who uuid entry.act) put_none puts in
+        let free : Free (Some w.bytes) = λ d a of. elim (due w.node w.inc w.bytes w.answer w.is d a of) [ inl turn ↦ mine d a of turn | inr again ↦ was d again.1 of ] in
         (λ d a of. free d (w.from_it d a of) of, Surely-wrote Free w all free)
 
     free_after : (who : Incarnation) → Effect uuid may entry.act
@@ -242,7 +255,7 @@ module _ (uuid : List ℕ) where
           | inl still ↦ (let quiet = or_parts (claimed_in entry.act) (puts_record who uuid entry.act) still.1 in
               let held_then = held_before who (claimant uuid history) entry.act quiet.0 (subst (λ h. IsTrue (is_held_by who h)) (claimant-snoc uuid history entry) held) in
               let was = before.free who still.0 held_then in
-              let now = still_free who what held_then quiet.1 was.1 in
+              let now = still_free who what held_then quiet.1 was.0 was.1 in
               (λ c among of. elim (in_flat_map_snoc (λ (e : DoorEntry). committed_by e) c history entry among) [ inl old ↦ was.0 c old of | inr new ↦ now.0 c new of ], now.1))
           | inr finds ↦ (let found = found_absent who may entry.act finds in (
             λ c among of. elim (in_flat_map_snoc (λ (e : DoorEntry). committed_by e) c history entry among) [

@@ -6,7 +6,7 @@ use Rattle.std.specs.Str.{bytes_eq}
 use Rattle.std.proofs.lemmas.Bool.{and_parts, eqb-true, not-true, true≢false, false≢true}
 use Rattle.std.proofs.lemmas.List.Concat.{flat_map-append}
 use Rattle.std.proofs.lemmas.List.Sums.{fold-append}
-use Rattle.aft_id.specs.TxnId.{zero_id}
+use Rattle.aft_id.specs.TxnId.{zero_id, same_id}
 use Rattle.aft_id.specs.declared.txn_id.TxnId.{TxnId}
 use Rattle.aft_records.specs.Superseded.{wrote}
 use Rattle.aft_records.specs.declared.stored.Commit.{Commit}
@@ -21,13 +21,14 @@ use Rattle.aft_model.specs.declared.node.NodeEntry.{NodeEntry}
 use Rattle.aft_model.specs.declared.read_set.ReadPair.{ReadPair}
 use Rattle.aft_model.specs.declared.reply.Reply.{Reply}
 use Rattle.aft_model.specs.Attempts.{AttemptState, IsGone, IsOpening, IsRunning, IsCommitting, IsInDoubt, IsLeaving, same_attempt, attempt_after, attempt_state, is_opening, is_running, is_committing, is_in_doubt, is_gone, tried_again, doubted, admitted_by, attempts, present, present_of, buffer, buffered, is_read, with_read, read_by, reads_after, reads, is_pinned}
-use Rattle.aft_model.specs.Cache.{Kept, cache, kept_value}
+use Rattle.aft_records.specs.Kept.{Kept, kept_value}
+use Rattle.aft_model.specs.Cache.{cache}
 use Rattle.aft_model.specs.Choice.{fits, fitting, blockers, none_chosen, chosen, choice}
-use Rattle.aft_model.specs.Known.{has_id, greatest, versions, known_after, known_in}
+use Rattle.aft_records.specs.Commits.{has_id, greatest, versions}
+use Rattle.aft_model.specs.Known.{known_after, known_in}
 use Rattle.aft_model.specs.LegalNode.{may_serve}
 use Rattle.aft_model.specs.NodeRules.{may_admit, may_start, may_leave, kept_or_fetched, picked_by, own_or, pick, same_picked, answers_pick}
 use Rattle.aft_model.specs.NodeState.{Service, extended}
-use Rattle.aft_model.specs.Readings.{same_id}
 use Rattle.aft_model.proofs.Greatest.{greatest_among}
 use Rattle.aft_model.proofs.Histories.{In, in_append, any_found, any_from}
 use Rattle.aft_model.proofs.Ids.{same_ids, same_id-refl}

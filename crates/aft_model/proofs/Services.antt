@@ -8,7 +8,6 @@ use Rattle.aft_model.specs.declared.node.NodeAct.{NodeAct}
 use Rattle.aft_model.specs.declared.node.NodeAct.TheVariants.{Nothing, Booting, Boot, BootStopped, Down}
 use Rattle.aft_model.specs.declared.node.NodeEntry.{NodeEntry}
 use Rattle.aft_model.specs.declared.reply.Reply.{Reply}
-use Rattle.aft_model.specs.Known.{has_each_id_once}
 use Rattle.aft_model.specs.LegalNode.{may_serve, may_be_done, may_follow_at, front, LegalNode}
 use Rattle.aft_model.specs.NodeRules.{may_answer_alone, may_begin_boot}
 use Rattle.aft_model.specs.NodeState.{Service, NodeState, IsDown, IsBooting, IsServing, extended, goes_on, stopped, state_after, node_state, newest_after, newest, service_in, in_service, boots, serves}
@@ -22,7 +21,7 @@ pub data Moved (node capacity newest : ℕ) (before : NodeState) (entry : NodeEn
   GoesDown : after ≡ IsDown → Moved node capacity newest before entry act answer after
   Begins : (inc : ℕ) → act ≡ Booting inc → IsTrue (may_begin_boot inc newest before) → after ≡ IsBooting inc true → Moved node capacity newest before entry act answer after
   Waits : (inc : ℕ) (running still : Bool) → before ≡ IsBooting inc running → after ≡ IsBooting inc still → Moved node capacity newest before entry act answer after
-  Boots : (inc : ℕ) (commits : List Commit) → IsTrue (boots inc before) → IsTrue (has_each_id_once commits) → after ≡ IsServing (record { inc = inc; booted = commits; part = [] })
+  Boots : (inc : ℕ) (commits : List Commit) → IsTrue (boots inc before) → after ≡ IsServing (record { inc = inc; booted = commits; part = [] })
       → Moved node capacity newest before entry act answer after
 
 same_service : (s t : Service) → IsServing s ≡ IsServing t → s ≡ t
@@ -54,10 +53,7 @@ moved : (node capacity : ℕ) (history : List NodeEntry) (entry : NodeEntry) (ac
     → Moved node capacity (newest history) (node_state history) entry act answer (state_after (node_state history) entry act)
 moved node capacity history entry Nothing answer rule = rests node capacity (newest history) (node_state history) entry answer rule
 moved node capacity history entry (Booting inc) answer rule = Begins inc refl (and_parts _ _ rule).0 refl
-moved node capacity history entry (Boot inc commits) answer rule =
-    let parts = and_parts (boots inc (node_state history) && has_each_id_once commits) _ rule in
-    let both = and_parts (boots inc (node_state history)) (has_each_id_once commits) parts.0 in
-    Boots inc commits both.0 both.1 refl
+moved node capacity history entry (Boot inc commits) answer rule = Boots inc commits (and_parts (boots inc (node_state history)) _ rule).0 refl
 moved node capacity history entry (BootStopped inc) answer rule = stops node capacity (newest history) inc (node_state history) entry answer (and_parts _ _ rule).0
 moved node capacity history entry (Down inc) answer rule = GoesDown refl
 moved node capacity history entry act answer rule = serves_on node capacity (newest history) (node_state history) entry act answer rule
@@ -108,7 +104,7 @@ bounded_after node capacity n before entry act answer after (Begins inc by rule 
     subst (Bounded (newest_after n act)) (sym is) (subst (λ (a : NodeAct). inc ≤ newest_after n a) (sym by) most)
 bounded_after node capacity n before entry act answer after (Waits inc running still was is) bounded =
     subst (Bounded (newest_after n act)) (sym is) (bounded_more n (newest_after n act) (IsBooting inc running) (newest_grows n act) (subst (Bounded n) was bounded))
-bounded_after node capacity n before entry act answer after (Boots inc commits boot once is) bounded =
+bounded_after node capacity n before entry act answer after (Boots inc commits boot is) bounded =
     let most : inc ≤ n = boots_bounded n inc before boot bounded in
     let more : n ≤ newest_after n act = newest_grows n act in
     let bound : inc ≤ newest_after n act = omega arith in
@@ -146,7 +142,7 @@ past_after node capacity n inc before entry act answer after how past =
     later (GoesDown is) = subst (Later inc) (sym is) tt
     later (Begins booting by rule is) = subst (Later inc) (sym is) (begins_later n inc booting before rule past)
     later (Waits booting running still was is) = subst (Later inc) (sym is) (subst (Later inc) was past.1)
-    later (Boots booting commits boot once is) = subst (Later inc) (sym is) (boots_later inc booting before boot past.1)
+    later (Boots booting commits boot is) = subst (Later inc) (sym is) (boots_later inc booting before boot past.1)
 
 past_over : (inc n : ℕ) (state : NodeState) → Past inc n state → IsTrue (serves inc state) → ⊥
 past_over inc n IsDown past serve = false≢true serve
@@ -162,7 +158,7 @@ served_on node capacity n before entry act answer after s t (Serves u was rule i
 served_on node capacity n before entry act answer after s t (GoesDown is) serve still = absurd (not_down t (sym still ∙ is))
 served_on node capacity n before entry act answer after s t (Begins inc by rule is) serve still = absurd (two_states t inc true (sym still ∙ is))
 served_on node capacity n before entry act answer after s t (Waits inc running wait was is) serve still = absurd (two_states s inc running (sym serve ∙ was))
-served_on node capacity n before entry act answer after s t (Boots inc commits boot once is) serve still =
+served_on node capacity n before entry act answer after s t (Boots inc commits boot is) serve still =
     absurd (false≢true (subst (λ (state : NodeState). IsTrue (boots inc state)) serve boot))
 
 -- the service of a node that serves as an incarnation
@@ -206,7 +202,7 @@ module _ (node capacity inc : ℕ) (P : Service → Type 0)
   on_with history entry n after legal bounded (Begins booting by rule is) new (t, serve, of, holds) =
       absurd (false≢true (subst (λ (state : NodeState). IsTrue (may_begin_boot booting (newest history) state)) serve rule))
   on_with history entry n after legal bounded (Waits booting running still was is) new (t, serve, of, holds) = absurd (two_states t booting running (sym serve ∙ was))
-  on_with history entry n after legal bounded (Boots booting commits boot once is) new (t, serve, of, holds) =
+  on_with history entry n after legal bounded (Boots booting commits boot is) new (t, serve, of, holds) =
       absurd (false≢true (subst (λ (state : NodeState). IsTrue (boots booting state)) serve boot))
 
   kept_after : (history : List NodeEntry) (entry : NodeEntry) → LegalNode node capacity history → IsTrue (may_follow_at node capacity history entry) → Kept history → Kept (history ++ entry ∷ [])

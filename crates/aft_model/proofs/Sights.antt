@@ -24,7 +24,7 @@ use Rattle.aft_model.specs.declared.door.DoorAct.TheVariants.{Call}
 use Rattle.aft_model.specs.Evidence.{covers, shown_on_page, shown_in, pairs_in, stored_in}
 use Rattle.aft_model.specs.MayHold.{MayHold, OneOf, or_else, seen, after_act}
 use Rattle.aft_model.specs.LegalDoor.{ascends, is_answered}
-use Rattle.aft_model.specs.Course.{is_delete}
+use Rattle.aft_model.specs.DoorKnowledge.{is_delete}
 use Rattle.aft_model.specs.Readings.{record_name, marker_name, version_name, id_of_marker, read_under, records_in}
 use Rattle.aft_model.proofs.Histories.{In, in_append, in_flat_map}
 

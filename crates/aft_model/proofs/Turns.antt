@@ -34,7 +34,7 @@ followed_some first rest (x ∷ xs) passed =
       | inr later ↦ or_right _ _ (followed_some first rest xs later)
     ]
 
-followed_implied : {A : Type 0} (first : A → Bool) (p q : List A → Bool) → ((ys : List A) → IsTrue (p ys) → IsTrue (q ys)) → (xs : List A) → IsTrue (followed first p xs) → IsTrue (followed first q xs)
+pub followed_implied : {A : Type 0} (first : A → Bool) (p q : List A → Bool) → ((ys : List A) → IsTrue (p ys) → IsTrue (q ys)) → (xs : List A) → IsTrue (followed first p xs) → IsTrue (followed first q xs)
 followed_implied first p q more [] passed = passed
 followed_implied first p q more (x ∷ xs) passed =
     elim (or_cases (first x && p xs) (followed first p xs) passed) [
@@ -42,11 +42,11 @@ followed_implied first p q more (x ∷ xs) passed =
       | inr later ↦ or_right _ _ (followed_implied first p q more xs later)
     ]
 
-all_snoc : {A : Type 0} (test : A → Bool) (xs : List A) (x : A) → IsTrue (list_all test xs) → IsTrue (test x) → IsTrue (list_all test (xs ++ x ∷ []))
+pub all_snoc : {A : Type 0} (test : A → Bool) (xs : List A) (x : A) → IsTrue (list_all test xs) → IsTrue (test x) → IsTrue (list_all test (xs ++ x ∷ []))
 all_snoc test [] x all last = and_from _ _ last refl
 all_snoc test (y ∷ ys) x all last = let parts = and_parts (test y) (list_all test ys) all in and_from _ _ parts.0 (all_snoc test ys x parts.1 last)
 
-followed_more : {A : Type 0} (first good : A → Bool) (xs : List A) (x : A) → IsTrue (followed first (list_all good) xs) → IsTrue (good x) → IsTrue (followed first (list_all good) (xs ++ x ∷ []))
+pub followed_more : {A : Type 0} (first good : A → Bool) (xs : List A) (x : A) → IsTrue (followed first (list_all good) xs) → IsTrue (good x) → IsTrue (followed first (list_all good) (xs ++ x ∷ []))
 followed_more first good [] x passed last = absurd (false≢true passed)
 followed_more first good (y ∷ ys) x passed last =
     elim (or_cases (first y && list_all good ys) (followed first (list_all good) ys) passed) [
@@ -54,7 +54,7 @@ followed_more first good (y ∷ ys) x passed last =
       | inr later ↦ or_right _ _ (followed_more first good ys x later last)
     ]
 
-followed_last : {A : Type 0} (first good : A → Bool) (xs : List A) (x : A) → IsTrue (first x) → IsTrue (followed first (list_all good) (xs ++ x ∷ []))
+pub followed_last : {A : Type 0} (first good : A → Bool) (xs : List A) (x : A) → IsTrue (first x) → IsTrue (followed first (list_all good) (xs ++ x ∷ []))
 followed_last first good [] x last = or_left _ _ (and_from _ _ last refl)
 followed_last first good (y ∷ ys) x last = or_right _ _ (followed_last first good ys x last)
 
@@ -205,7 +205,7 @@ module _ (who : Incarnation) (uuid : List ℕ) where
         → IsTrue (is_held_by who (claimant uuid history)) → IsTrue (is_up who history) → IsFalse (claimed_in uuid act)
     unclaimed (Claim claimed node inc) (inr read) held up = absurd (false≢true read)
     unclaimed (Claim claimed node inc) (inl come) held up = false_from_ne_true (bytes_eq uuid claimed) (λ same.
-        let free : is_some (holder claimed history) ≡ false = not-true _ (and_parts _ _ come).1 in
+        let free : is_some (holder claimed history) ≡ false = not-true _ (and_parts _ _ (and_parts _ _ come).1).0 in
         let mine : is_some (holder claimed history) ≡ true = subst (λ u. IsTrue (is_some (holder u history))) (same_bytes uuid claimed same) (up_held who history (claimant uuid history) held up) in
         true≢false (sym mine ∙ free))
     unclaimed act rule held up = refl

@@ -1,10 +1,10 @@
 -- Atomic read sets: what was read of a commit goes with what was read beside it.
-use Rattle.std.specs.Prelude.{◌||◌, Bool, not, List, IsTrue}
+use Rattle.std.specs.Prelude.{Bool, IsTrue, List, not, ◌||◌}
 use Rattle.std.specs.List.{list_all}
+use Rattle.aft_id.specs.TxnId.{same_id}
 use Rattle.aft_records.specs.declared.stored.Commit.{Commit}
 use Rattle.aft_model.specs.declared.read_set.ReadPair.{ReadPair}
 use Rattle.aft_model.specs.Choice.{is_read_below}
-use Rattle.aft_model.specs.Readings.{same_id}
 
 -- whether no key of a commit was read below the commit
 abbrev pub is_read_whole : List ReadPair → Commit → Bool

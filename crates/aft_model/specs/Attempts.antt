@@ -1,19 +1,19 @@
 -- The attempts of a service, read off its part: what each is doing, what it has buffered and what it has read.
-use Rattle.std.specs.Prelude.{ℕ, ◌-◌, ◌==◌, ◌&&◌, Bool, true, false, not, List, [], ◌∷◌, ◌++◌, length, map, filter, Option, Some, None, if◌then◌else◌}
-use Rattle.std.specs.List.{list_any, fold, flat_map}
+use Rattle.std.specs.Prelude.{Bool, List, None, Option, Some, [], false, filter, if◌then◌else◌, map, not, suc, true, ℕ, ◌&&◌, ◌++◌, ◌-◌, ◌==◌, ◌∷◌}
+use Rattle.std.specs.List.{flat_map, fold, list_any}
 use Rattle.std.specs.Str.{bytes_eq}
-use Rattle.aft_id.specs.TxnId.{zero_id}
 use Rattle.aft_id.specs.declared.txn_id.TxnId.{TxnId}
+use Rattle.aft_id.specs.TxnId.{same_id, zero_id}
 use Rattle.aft_keeper.specs.Contents.{name_lt}
 use Rattle.aft_records.specs.declared.stored.Commit.{Commit}
 use Rattle.aft_model.specs.declared.caller.Attempt.{Attempt}
+use Rattle.aft_model.specs.declared.caller.By.{By}
 use Rattle.aft_model.specs.declared.choice.Picked.{Picked}
-use Rattle.aft_model.specs.declared.choice.Picked.TheVariants as picked
 use Rattle.aft_model.specs.declared.node.NodeAct.{NodeAct}
-use Rattle.aft_model.specs.declared.node.NodeAct.TheVariants.{Admit, Begin, Unadmit, Put, Select, Value, Lost, Start, Settle, Leave, Doubt, End}
+use Rattle.aft_model.specs.declared.node.NodeAct.TheVariants.{Admit, Begin, Doubt, End, Leave, Lost, Put, Select, Settle, Start, Unadmit, Value}
 use Rattle.aft_model.specs.declared.node.NodeEntry.{NodeEntry}
 use Rattle.aft_model.specs.declared.read_set.ReadPair.{ReadPair}
-use Rattle.aft_model.specs.Readings.{same_id}
+use Rattle.aft_model.specs.declared.choice.Picked.TheVariants as picked
 
 -- whether two attempts are the same
 abbrev pub same_attempt : Attempt → Attempt → Bool
@@ -115,6 +115,15 @@ is_of uuid part a = list_any (λ entry. admits a uuid entry.act) part
 abbrev pub present_of : List ℕ → List NodeEntry → List Attempt
 present_of uuid part = filter (is_of uuid part) (present part)
 
+-- the UUID of an attempt after an act
+abbrev pub uuid_after : Attempt → List ℕ → NodeAct → List ℕ
+uuid_after a before (Admit b uuid) = if same_attempt a b then uuid else before
+uuid_after a before act = before
+
+-- the UUID that an attempt was admitted for
+abbrev pub uuid_of : Attempt → List NodeEntry → List ℕ
+uuid_of a part = fold (λ before entry. uuid_after a before entry.act) [] part
+
 -- ---- what an attempt has buffered
 
 -- a buffered write
@@ -185,10 +194,48 @@ ends_fetch a (Value b key id place kept) = same_attempt a b
 ends_fetch a (Lost b key id) = same_attempt a b
 ends_fetch a act = false
 
+-- how many fetches of an attempt aren't over after an act
+abbrev pub open_after : Attempt → ℕ → NodeAct → ℕ
+open_after a before act = if fetches a act then suc before else if ends_fetch a act then before - 1 else before
+
 -- how many fetches of an attempt aren't over
 abbrev pub open_reads : Attempt → List NodeEntry → ℕ
-open_reads a part = length (filter (λ entry. fetches a entry.act) part) - length (filter (λ entry. ends_fetch a entry.act) part)
+open_reads a part = fold (λ before entry. open_after a before entry.act) 0 part
 
 -- whether an attempt that is there has read at an id
 abbrev pub is_pinned : TxnId → List NodeEntry → Bool
 is_pinned id part = list_any (λ a. list_any (λ pair. same_id id pair.id) (reads a part)) (present part)
+
+-- ---- an attempt as a row
+
+-- all of an attempt: its number, its UUID, what it is doing, what it has buffered and read, and how many of its fetches aren't over
+pub record Row : Type 0 where
+  pub number : ℕ
+  pub uuid : List ℕ
+  pub state : AttemptState
+  pub writes : List Write
+  pub pairs : List ReadPair
+  pub fetching : ℕ
+
+-- an attempt as a row
+abbrev pub row_of : List NodeEntry → Attempt → Row
+row_of part a = record { number = a.number; uuid = uuid_of a part; state = attempt_state a part; writes = buffer a part; pairs = reads a part; fetching = open_reads a part }
+
+-- the attempts that are there as rows, in order of number
+abbrev pub rows : List NodeEntry → List Row
+rows part = map (row_of part) (present part)
+
+-- ---- who moves an attempt
+
+-- the line that an act puts in charge of an attempt: the one that starts, settles or leaves it, until it is in doubt or has ended
+abbrev pub owner_after : Attempt → By → Option By → NodeAct → Option By
+owner_after a by before (Start b now c) = if same_attempt a b then Some by else before
+owner_after a by before (Settle b) = if same_attempt a b then Some by else before
+owner_after a by before (Leave b) = if same_attempt a b then Some by else before
+owner_after a by before (Doubt b) = if same_attempt a b then None else before
+owner_after a by before (End b) = if same_attempt a b then None else before
+owner_after a by before act = before
+
+-- the line that moves an attempt on, if one does
+abbrev pub owner : Attempt → List NodeEntry → Option By
+owner a part = fold (λ before entry. owner_after a entry.by before entry.act) None part

@@ -1,13 +1,13 @@
 -- Mailboxes: a box holds messages, the ids of commits, and has room for so many.
-use Rattle.std.specs.Prelude.{ℕ, Bool, ◌==◌, ◌-◌, List, [], ◌++◌, length, take, drop, IsTrue}
-use Rattle.std.specs.List.{fold}
+use Rattle.std.specs.Prelude.{Bool, IsTrue, List, [], drop, length, take, ℕ, ◌++◌, ◌-◌, ◌==◌}
 use Rattle.std.specs.Cmp.Lexicographic.{pointwise}
+use Rattle.std.specs.List.{fold}
 use Rattle.aft_id.specs.declared.txn_id.TxnId.{TxnId}
+use Rattle.aft_id.specs.TxnId.{same_id}
 use Rattle.aft_model.specs.declared.mail.MailAct.{MailAct}
 use Rattle.aft_model.specs.declared.mail.MailAct.TheVariants.{Post, Take}
 use Rattle.aft_model.specs.declared.mail.MailEntry.{MailEntry}
 use Rattle.aft_model.specs.History.{each_after}
-use Rattle.aft_model.specs.Readings.{same_id}
 
 -- the messages of a post that a box of a size has room for: the first of them
 abbrev pub fitting : ℕ → List TxnId → List TxnId → List TxnId

@@ -1,18 +1,17 @@
 -- Which version a get of a key reads.
-use Rattle.std.specs.Prelude.{ℕ, ◌&&◌, ◌||◌, Bool, not, List, [], ◌∷◌, filter, Option, Some, None, if◌then◌else◌}
-use Rattle.std.specs.List.{list_any, list_all, flat_map}
+use Rattle.std.specs.Prelude.{Bool, List, None, Option, Some, [], filter, if◌then◌else◌, not, ℕ, ◌&&◌, ◌||◌, ◌∷◌}
+use Rattle.std.specs.List.{flat_map, list_all, list_any}
 use Rattle.std.specs.Str.{bytes_eq}
-use Rattle.aft_id.specs.TxnId.{zero_id, id_lt}
 use Rattle.aft_id.specs.declared.txn_id.TxnId.{TxnId}
+use Rattle.aft_id.specs.TxnId.{id_lt, same_id, zero_id}
 use Rattle.aft_records.specs.declared.stored.Commit.{Commit}
+use Rattle.aft_records.specs.Commits.{greatest, versions}
 use Rattle.aft_records.specs.Superseded.{wrote}
 use Rattle.aft_model.specs.declared.choice.Blocked.{Blocked}
 use Rattle.aft_model.specs.declared.choice.Choice.{Choice}
-use Rattle.aft_model.specs.declared.choice.Choice.TheVariants.{Version, Absent, NoneFits}
+use Rattle.aft_model.specs.declared.choice.Choice.TheVariants.{Absent, NoneFits, Version}
 use Rattle.aft_model.specs.declared.read_set.ReadPair.{ReadPair}
 use Rattle.aft_model.specs.Attempts.{is_read}
-use Rattle.aft_model.specs.Known.{greatest, versions, in_id_order}
-use Rattle.aft_model.specs.Readings.{same_id}
 
 -- whether an id is at most another
 abbrev pub id_le : TxnId → TxnId → Bool
@@ -53,9 +52,9 @@ abbrev pub first_below : TxnId → List ReadPair → List (List ℕ) → List Bl
 first_below id reads [] = []
 first_below id reads (key ∷ keys) = below_of id key reads (first_below id reads keys)
 
--- for each known version of a key, ascending, the first key of its commit that was read below it, and that read id
+-- for each known version of a key, in the order of the known commits, the first key of its commit that was read below it, and that read id
 abbrev pub blockers : List ℕ → List ReadPair → List Commit → List Blocked
-blockers key reads known = flat_map (λ c. first_below c.id reads c.keys) (in_id_order (filter (wrote key) known))
+blockers key reads known = flat_map (λ c. first_below c.id reads c.keys) (filter (wrote key) known)
 
 -- where no version fits: the key is absent if no known commit wrote it, and else each version is blocked
 abbrev pub none_chosen : List (TxnId) → List Blocked → Choice

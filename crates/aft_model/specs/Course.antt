@@ -1,15 +1,15 @@
 -- What the course of a transaction's lines gives at the door, as far as an id's committing once needs it.
-use Rattle.std.specs.Prelude.{ℕ, Bool, true, false, not, ◌&&◌, List, [], IsTrue}
-use Rattle.std.specs.List.{list_any, list_all}
+use Rattle.std.specs.Prelude.{Bool, IsTrue, List, [], false, not, true, ℕ, ◌&&◌, ◌==◌, ◌||◌}
+use Rattle.std.specs.List.{list_all, list_any}
 use Rattle.std.specs.Str.{bytes_eq}
-use Rattle.aft_keeper.specs.declared.keeper.KeeperCall.TheVariants.{Put, Delete}
+use Rattle.aft_keeper.specs.declared.keeper.KeeperCall.TheVariants.{Put}
+use Rattle.aft_records.specs.Commits.{has_uuid}
 use Rattle.aft_model.specs.declared.door.DoorAct.{DoorAct}
 use Rattle.aft_model.specs.declared.door.DoorAct.TheVariants.{Call, Release}
 use Rattle.aft_model.specs.declared.door.DoorEntry.{DoorEntry}
-use Rattle.aft_model.specs.Committed.{has_uuid}
-use Rattle.aft_model.specs.DoorKnowledge.{claims, finds_absent}
+use Rattle.aft_model.specs.DoorKnowledge.{claims, finds_absent, is_delete}
 use Rattle.aft_model.specs.History.{each_after, followed}
-use Rattle.aft_model.specs.Membership.{Incarnation, same_incarnation, incarnation}
+use Rattle.aft_model.specs.Membership.{Incarnation, incarnation, same_incarnation}
 use Rattle.aft_model.specs.Readings.{record_name, records_in}
 
 -- whether an act is this incarnation's release of this UUID
@@ -33,20 +33,15 @@ is_due who uuid history =
     followed (λ entry. claims who uuid entry.act) (λ since. none_is (releases who uuid) since
     && followed (λ entry. finds_absent who (record_name uuid) entry.act) (none_is (puts_record who uuid)) since) history
 
--- whether an act, if it puts a record, is its caller's turn
+-- whether an act, if a node puts a record by it, is its caller's turn; the office only puts records again
 abbrev pub puts_when_due : List DoorEntry → DoorAct → Bool
 puts_when_due history (Call node inc (Put name bytes) answer) =
-    list_all (λ c. is_due (incarnation node inc) c.id.uuid history) (records_in (record { name = name; bytes = bytes }))
+    node == 0 || list_all (λ c. is_due (incarnation node inc) c.id.uuid history) (records_in (record { name = name; bytes = bytes }))
 puts_when_due history act = true
 
--- a history in which each record was put when it was its caller's turn, as a line that commits does
+-- a history in which each record that a node put was put when it was the node's turn, as a line that commits does
 abbrev pub KeepsCourse : List DoorEntry → Type 0
 KeepsCourse history = IsTrue (each_after (λ before entry. puts_when_due before entry.act) [] history)
-
--- whether an act is a delete
-abbrev pub is_delete : DoorAct → Bool
-is_delete (Call node inc (Delete name) answer) = true
-is_delete act = false
 
 -- a history in which nothing was deleted
 abbrev pub DeletesNothing : List DoorEntry → Type 0

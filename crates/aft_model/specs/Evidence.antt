@@ -1,13 +1,13 @@
 -- What an entry of the door's history shows of the store.
-use Rattle.std.specs.Prelude.{ℕ, nat_lt, Bool, true, false, not, ◌&&◌, ◌||◌, List, [], ◌∷◌, length, Option, Some, None, if◌then◌else◌}
+use Rattle.std.specs.Prelude.{Bool, List, None, Option, Some, [], false, if◌then◌else◌, length, nat_lt, not, true, ℕ, ◌&&◌, ◌||◌, ◌∷◌}
 use Rattle.std.specs.List.{last_or}
 use Rattle.std.specs.Str.{bytes_eq}
-use Rattle.aft_keeper.specs.Contents.{name_lt, bytes_at, is_scanned}
-use Rattle.aft_keeper.specs.declared.keeper.Pair.{Pair}
+use Rattle.aft_keeper.specs.declared.keeper.KeeperAnswer.{KeeperAnswer}
+use Rattle.aft_keeper.specs.declared.keeper.KeeperAnswer.TheVariants.{Absent, Done, Found, Page}
 use Rattle.aft_keeper.specs.declared.keeper.KeeperCall.{KeeperCall}
 use Rattle.aft_keeper.specs.declared.keeper.KeeperCall.TheVariants.{Get, Put, Scan}
-use Rattle.aft_keeper.specs.declared.keeper.KeeperAnswer.{KeeperAnswer}
-use Rattle.aft_keeper.specs.declared.keeper.KeeperAnswer.TheVariants.{Absent, Found, Done, Page}
+use Rattle.aft_keeper.specs.declared.keeper.Pair.{Pair}
+use Rattle.aft_keeper.specs.Contents.{bytes_at, is_scanned, name_lt}
 use Rattle.aft_model.specs.declared.door.DoorAct.{DoorAct}
 use Rattle.aft_model.specs.declared.door.DoorAct.TheVariants.{Call}
 use Rattle.aft_model.specs.declared.door.DoorEntry.{DoorEntry}

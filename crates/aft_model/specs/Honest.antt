@@ -1,16 +1,16 @@
 -- A store that keeps what it acknowledged: what it shows is always something that the name may hold.
-use Rattle.std.specs.Prelude.{ℕ, Bool, true, List, [], ◌∷◌, ◌++◌, map, Option, Some, None, IsTrue}
-use Rattle.std.specs.List.{list_any, list_all, flat_map}
+use Rattle.std.specs.Prelude.{Bool, IsTrue, List, None, Option, Some, [], map, true, ℕ, ◌++◌, ◌∷◌}
+use Rattle.std.specs.List.{flat_map, list_all, list_any}
 use Rattle.std.specs.Option.{option_eq}
 use Rattle.std.specs.Str.{bytes_eq}
 use Rattle.aft_keeper.specs.declared.keeper.KeeperCall.{KeeperCall}
-use Rattle.aft_keeper.specs.declared.keeper.KeeperCall.TheVariants.{Get, Put, Delete, Scan}
+use Rattle.aft_keeper.specs.declared.keeper.KeeperCall.TheVariants.{Delete, Get, Put, Scan}
 use Rattle.aft_model.specs.declared.door.DoorAct.{DoorAct}
 use Rattle.aft_model.specs.declared.door.DoorAct.TheVariants.{Call}
 use Rattle.aft_model.specs.declared.door.DoorEntry.{DoorEntry}
 use Rattle.aft_model.specs.Evidence.{shown, shown_pairs}
 use Rattle.aft_model.specs.History.{each_after}
-use Rattle.aft_model.specs.MayHold.{MayHold, Unknown, OneOf, may_hold}
+use Rattle.aft_model.specs.MayHold.{MayHold, OneOf, Unknown, may_hold}
 
 -- whether a name may hold this
 abbrev pub may_be : MayHold → Option (List ℕ) → Bool

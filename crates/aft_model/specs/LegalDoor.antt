@@ -1,19 +1,19 @@
 -- Which histories the door may have.
-use Rattle.std.specs.Prelude.{ℕ, Bool, true, false, nat_le, ◌&&◌, List, [], ◌∷◌, length, IsTrue, if◌then◌else◌}
+use Rattle.std.specs.Prelude.{Bool, IsTrue, List, [], false, if◌then◌else◌, length, nat_le, true, ℕ, ◌&&◌, ◌∷◌}
 use Rattle.std.specs.List.{list_all}
-use Rattle.aft_keeper.specs.Contents.{is_scanned, name_lt}
-use Rattle.aft_keeper.specs.declared.keeper.Pair.{Pair}
-use Rattle.aft_keeper.specs.declared.keeper.KeeperCall.{KeeperCall}
-use Rattle.aft_keeper.specs.declared.keeper.KeeperCall.TheVariants.{Get, Put, Delete, Scan}
 use Rattle.aft_keeper.specs.declared.keeper.KeeperAnswer.{KeeperAnswer}
-use Rattle.aft_keeper.specs.declared.keeper.KeeperAnswer.TheVariants.{Failed, Absent, Found, Done, Page}
+use Rattle.aft_keeper.specs.declared.keeper.KeeperAnswer.TheVariants.{Absent, Done, Failed, Found, Page}
+use Rattle.aft_keeper.specs.declared.keeper.KeeperCall.{KeeperCall}
+use Rattle.aft_keeper.specs.declared.keeper.KeeperCall.TheVariants.{Delete, Get, Put, Scan}
+use Rattle.aft_keeper.specs.declared.keeper.Pair.{Pair}
+use Rattle.aft_keeper.specs.Contents.{is_scanned, name_lt}
 use Rattle.aft_model.specs.declared.door.DoorAct.{DoorAct}
-use Rattle.aft_model.specs.declared.door.DoorAct.TheVariants.{Call, Opened, Up, Fence, Claim, Release, GiveUp}
+use Rattle.aft_model.specs.declared.door.DoorAct.TheVariants.{Call, Claim, Fence, GiveUp, Opened, Release, Up}
 use Rattle.aft_model.specs.declared.door.DoorEntry.{DoorEntry}
 use Rattle.aft_model.specs.DoorKnowledge.{is_open}
-use Rattle.aft_model.specs.DoorRules.{may_come_up, may_be_fenced, may_claim, may_release, may_call}
+use Rattle.aft_model.specs.DoorRules.{may_be_fenced, may_call, may_claim, may_come_up, may_release}
 use Rattle.aft_model.specs.History.{each_after}
-use Rattle.aft_model.specs.Membership.{is_up, incarnation}
+use Rattle.aft_model.specs.Membership.{incarnation, is_up}
 use Rattle.aft_model.specs.Opening.{may_open}
 
 -- whether names ascend strictly

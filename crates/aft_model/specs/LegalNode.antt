@@ -1,17 +1,17 @@
 -- Which histories a node may have, as far as this is said of the history alone.
-use Rattle.std.specs.Prelude.{ℕ, nat_le, nat_lt, ◌&&◌, ◌||◌, Bool, false, not, List, [], length, Option, IsTrue}
+use Rattle.std.specs.Prelude.{Bool, IsTrue, List, Option, [], false, length, nat_le, nat_lt, not, ℕ, ◌&&◌, ◌||◌}
 use Rattle.std.specs.List.{fold}
 use Rattle.aft_model.specs.declared.node.NodeAct.{NodeAct}
-use Rattle.aft_model.specs.declared.node.NodeAct.TheVariants as acts
 use Rattle.aft_model.specs.declared.node.NodeEntry.{NodeEntry}
 use Rattle.aft_model.specs.declared.reply.Reply.{Reply}
-use Rattle.aft_model.specs.declared.reply.Reply.TheVariants as replies
-use Rattle.aft_model.specs.Attempts.{attempt_state, open_reads, is_running, is_opening, is_committing, is_in_doubt}
+use Rattle.aft_model.specs.Attempts.{attempt_state, is_committing, is_in_doubt, is_opening, is_running, open_reads}
 use Rattle.aft_model.specs.History.{each_after}
-use Rattle.aft_model.specs.Known.{has_each_id_once, holds_id, droppable}
-use Rattle.aft_model.specs.NodeRules.{may_answer_alone, may_begin_boot, is_boot_refusal, may_admit, is_begun, is_begin_refusal, may_put_key, pick, same_picked, answers_pick, is_value_of, is_fetch_refusal, may_start, may_leave, is_storing, is_doubt, is_end, is_own_end, counts, is_learned, are_ids_of, may_announce}
-use Rattle.aft_model.specs.NodeState.{Service, in_service, node_state, service, part, newest, boots, serves}
+use Rattle.aft_model.specs.Known.{droppable, holds_id}
+use Rattle.aft_model.specs.NodeRules.{answers_pick, are_ids_of, counts, is_begin_refusal, is_begun, is_boot_refusal, is_doubt, is_end, is_fetch_refusal, is_learned, is_own_end, is_storing, is_value_of, may_admit, may_announce, may_answer_alone, may_begin_boot, may_leave, may_put_key, may_start, pick, same_picked}
+use Rattle.aft_model.specs.NodeState.{Service, boots, in_service, newest, node_state, part, serves, service}
 use Rattle.aft_model.specs.Replies.{is_answer, is_silent}
+use Rattle.aft_model.specs.declared.node.NodeAct.TheVariants as acts
+use Rattle.aft_model.specs.declared.reply.Reply.TheVariants as replies
 
 -- whether an act and its answer may come in a service of a node that keeps so many values
 abbrev pub may_serve : ℕ → ℕ → NodeAct → Option Reply → Service → Bool
@@ -35,11 +35,11 @@ may_serve node capacity (acts.Announce kept pruned) answer serving = may_announc
 may_serve node capacity acts.Nothing answer serving = may_answer_alone answer
 may_serve node capacity act answer serving = false
 
--- whether an act and its answer may come after a node's history: a boot, whose commits have each id once, an end of a service, an answer alone, or else by the rules of a service
+-- whether an act and its answer may come after a node's history: a boot, an end of a service, an answer alone, or else by the rules of a service
 abbrev pub may_be_done : ℕ → ℕ → List NodeEntry → NodeAct → Option Reply → Bool
 may_be_done node capacity history acts.Nothing answer = may_answer_alone answer
 may_be_done node capacity history (acts.Booting inc) answer = may_begin_boot inc (newest history) (node_state history) && is_silent answer
-may_be_done node capacity history (acts.Boot inc commits) answer = boots inc (node_state history) && has_each_id_once commits && is_answer (replies.Started node inc) answer
+may_be_done node capacity history (acts.Boot inc commits) answer = boots inc (node_state history) && is_answer (replies.Started node inc) answer
 may_be_done node capacity history (acts.BootStopped inc) answer = boots inc (node_state history) && is_boot_refusal answer
 may_be_done node capacity history (acts.Down inc) answer = (boots inc (node_state history) || serves inc (node_state history)) && is_answer (replies.Crashed node inc) answer
 may_be_done node capacity history act answer = in_service (may_serve node capacity act answer) (service history)

@@ -1,32 +1,34 @@
 -- The rules of a node's history, one for each kind of entry, as far as they speak of that history alone: what the entry may say, and what it answers.
-use Rattle.std.specs.Prelude.{ℕ, suc, max, nat_lt, ◌==◌, ◌&&◌, ◌||◌, Bool, true, false, not, List, length, map, filter, Option, Some, None, is_some, if◌then◌else◌}
+use Rattle.std.specs.Prelude.{Bool, List, None, Option, Some, false, filter, if◌then◌else◌, is_some, length, map, max, nat_lt, not, suc, true, ℕ, ◌&&◌, ◌==◌, ◌||◌}
 use Rattle.std.specs.Cmp.Lexicographic.{pointwise}
-use Rattle.std.specs.List.{list_any, list_all, fold}
+use Rattle.std.specs.List.{fold, list_all, list_any}
 use Rattle.std.specs.Str.{bytes_eq}
 use Rattle.aft_id.specs.declared.txn_id.TxnId.{TxnId}
-use Rattle.aft_records.specs.Limits.{is_time}
-use Rattle.aft_records.specs.Superseded.{wrote, is_superseded}
+use Rattle.aft_id.specs.TxnId.{same_id}
 use Rattle.aft_records.specs.declared.stored.Commit.{Commit}
+use Rattle.aft_records.specs.Commits.{has_id, is_listed, same_commit, with_commit}
+use Rattle.aft_records.specs.Kept.{Kept, kept_value}
+use Rattle.aft_records.specs.Limits.{is_time}
+use Rattle.aft_records.specs.Superseded.{is_superseded, wrote}
 use Rattle.aft_model.specs.declared.caller.Attempt.{Attempt}
 use Rattle.aft_model.specs.declared.caller.By.{By}
 use Rattle.aft_model.specs.declared.choice.Choice.{Choice}
-use Rattle.aft_model.specs.declared.choice.Choice.TheVariants as choices
 use Rattle.aft_model.specs.declared.choice.Picked.{Picked}
-use Rattle.aft_model.specs.declared.choice.Picked.TheVariants as picked
 use Rattle.aft_model.specs.declared.node.NodeAct.{NodeAct}
-use Rattle.aft_model.specs.declared.node.NodeAct.TheVariants.{Stored, End}
+use Rattle.aft_model.specs.declared.node.NodeAct.TheVariants.{End, Stored}
 use Rattle.aft_model.specs.declared.node.NodeEntry.{NodeEntry}
 use Rattle.aft_model.specs.declared.read_set.ReadPair.{ReadPair}
 use Rattle.aft_model.specs.declared.reply.Reply.{Reply}
-use Rattle.aft_model.specs.declared.reply.Reply.TheVariants as replies
-use Rattle.aft_model.specs.Attempts.{AttemptState, IsCommitting, same_attempt, attempt_state, attempts, present_of, is_of, buffer, buffered, written_keys, reads, open_reads, is_running, is_leaving}
-use Rattle.aft_model.specs.Cache.{Kept, cache, kept_value}
+use Rattle.aft_model.specs.Attempts.{AttemptState, IsCommitting, attempt_state, attempts, buffer, buffered, is_leaving, is_of, is_running, open_reads, present_of, reads, same_attempt, written_keys}
+use Rattle.aft_model.specs.Cache.{cache}
 use Rattle.aft_model.specs.Choice.{choice}
-use Rattle.aft_model.specs.Known.{has_id, is_listed, with_commit, known_in, unannounced, in_id_order}
-use Rattle.aft_model.specs.NodeState.{NodeState, IsDown, IsBooting, IsServing, Service}
-use Rattle.aft_model.specs.Readings.{same_id, same_commit}
+use Rattle.aft_model.specs.Known.{known_in, unannounced}
+use Rattle.aft_model.specs.NodeState.{IsBooting, IsDown, IsServing, NodeState, Service}
+use Rattle.aft_model.specs.Replies.{is_answer, is_silent, same_blockers}
 use Rattle.aft_model.specs.ScanRun.{same_line}
-use Rattle.aft_model.specs.Replies.{same_blockers, is_answer, is_silent}
+use Rattle.aft_model.specs.declared.choice.Choice.TheVariants as choices
+use Rattle.aft_model.specs.declared.choice.Picked.TheVariants as picked
+use Rattle.aft_model.specs.declared.reply.Reply.TheVariants as replies
 
 -- the most keys that an attempt may write
 abbrev pub most_keys : ℕ
@@ -81,9 +83,13 @@ abbrev pub is_begun : Service → Attempt → Option Reply → Bool
 is_begun serving a (Some (replies.Begun uuid)) = is_of uuid serving.part a
 is_begun serving a answer = false
 
--- what the begin of an attempt that is taken away may answer
+-- what the begin or the forget of an attempt that is taken away may answer
 abbrev pub is_begin_refusal : Option Reply → Bool
 is_begin_refusal (Some (replies.Committed id)) = true
+is_begin_refusal (Some (replies.Forgot id)) = true
+is_begin_refusal (Some (replies.Kept id)) = true
+is_begin_refusal (Some (replies.Unknown uuid)) = true
+is_begin_refusal (Some (replies.Forgotten uuid)) = true
 is_begin_refusal (Some (replies.Busy node inc)) = true
 is_begin_refusal (Some (replies.Damaged name)) = true
 is_begin_refusal (Some replies.StoreFault) = true
@@ -246,5 +252,5 @@ are_ids_of commits ids = length ids == length commits && list_all (λ id. has_id
 -- the unannounced commits are taken: those that the known ones supersede are left out, and the others kept, both in id order
 abbrev pub may_announce : Service → List Commit → List Commit → Bool
 may_announce serving kept pruned =
-    pointwise same_commit kept (in_id_order (filter (λ c. not (is_superseded c (known_in serving))) (unannounced serving.part)))
-    && pointwise same_commit pruned (in_id_order (filter (λ c. is_superseded c (known_in serving)) (unannounced serving.part)))
+    pointwise same_commit kept (filter (λ c. not (is_superseded c (known_in serving))) (unannounced serving.part))
+    && pointwise same_commit pruned (filter (λ c. is_superseded c (known_in serving)) (unannounced serving.part))

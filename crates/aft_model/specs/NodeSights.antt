@@ -1,46 +1,39 @@
 -- What the entries of a node's history ask of the door's history, and of what their line was shown there. Each looks at the part that its front has seen.
-use Rattle.std.specs.Prelude.{ℕ, nat_le, ◌&&◌, Bool, true, false, List, [], ◌∷◌, length, take, drop, filter, Option, Some, None, if◌then◌else◌}
+use Rattle.std.specs.Prelude.{Bool, List, None, Option, Some, [], false, filter, length, nat_le, take, true, ℕ, ◌&&◌}
 use Rattle.std.specs.Cmp.Lexicographic.{pointwise}
-use Rattle.std.specs.List.{list_any, list_all, flat_map}
+use Rattle.std.specs.List.{list_all, list_any}
 use Rattle.std.specs.Str.{bytes_eq}
 use Rattle.aft_id.specs.declared.txn_id.TxnId.{TxnId}
+use Rattle.aft_id.specs.TxnId.{same_id}
 use Rattle.aft_keeper.specs.declared.keeper.KeeperAnswer.TheVariants.{Found}
 use Rattle.aft_keeper.specs.declared.keeper.KeeperCall.TheVariants.{Get}
-use Rattle.aft_records.specs.Superseded.{is_superseded}
 use Rattle.aft_records.specs.declared.stored.Commit.{Commit}
-use Rattle.aft_model.specs.declared.caller.Attempt.{Attempt}
+use Rattle.aft_records.specs.Commits.{is_among, same_commit}
+use Rattle.aft_records.specs.Superseded.{is_superseded}
 use Rattle.aft_model.specs.declared.caller.By.{By}
 use Rattle.aft_model.specs.declared.door.DoorAct.{DoorAct}
-use Rattle.aft_model.specs.declared.door.DoorAct.TheVariants as door_acts
 use Rattle.aft_model.specs.declared.door.DoorEntry.{DoorEntry}
 use Rattle.aft_model.specs.declared.node.NodeAct.{NodeAct}
-use Rattle.aft_model.specs.declared.node.NodeAct.TheVariants.{Boot, Down, Begin, Value, Stored, End, Learn, GiveUp, Admit}
+use Rattle.aft_model.specs.declared.node.NodeAct.TheVariants.{Begin, Boot, Down, End, GiveUp, Learn, Stored, Value}
 use Rattle.aft_model.specs.declared.node.NodeEntry.{NodeEntry}
 use Rattle.aft_model.specs.declared.reply.Reply.{Reply}
-use Rattle.aft_model.specs.declared.reply.Reply.TheVariants as replies
-use Rattle.aft_model.specs.Attempts.{AttemptState, IsCommitting, attempt_state, same_attempt}
-use Rattle.aft_model.specs.Committed.{committed, committed_by, is_among}
-use Rattle.aft_model.specs.DoorKnowledge.{finds_absent}
+use Rattle.aft_model.specs.Attempts.{AttemptState, IsCommitting, attempt_state, uuid_of}
+use Rattle.aft_model.specs.Committed.{committed, committed_by}
+use Rattle.aft_model.specs.DoorKnowledge.{knows_unused}
 use Rattle.aft_model.specs.Evidence.{shows_absent}
-use Rattle.aft_model.specs.History.{each_after, followed}
+use Rattle.aft_model.specs.History.{at_place, each_after, followed}
 use Rattle.aft_model.specs.Known.{known}
-use Rattle.aft_model.specs.Membership.{Incarnation, incarnation, same_incarnation, fenced}
+use Rattle.aft_model.specs.Membership.{Incarnation, fenced, incarnation, same_incarnation}
 use Rattle.aft_model.specs.NodeState.{part}
-use Rattle.aft_model.specs.Readings.{same_id, same_commit, record_name, marker_name, versions_in}
-use Rattle.aft_model.specs.ScanRun.{ScanPage, same_line, scan_pages, is_scan_run, commits_on}
+use Rattle.aft_model.specs.Readings.{record_name, versions_in}
+use Rattle.aft_model.specs.ScanRun.{ScanPage, commits_on, is_scan_run, same_line, scan_pages}
 use Rattle.aft_model.specs.Sound.{records_prefix}
+use Rattle.aft_model.specs.declared.door.DoorAct.TheVariants as door_acts
+use Rattle.aft_model.specs.declared.reply.Reply.TheVariants as replies
 
 -- the entries that a line made
 abbrev pub own_entries : By → List DoorEntry → List DoorEntry
 own_entries by entries = filter (λ entry. same_line by entry.by) entries
-
--- the element at a place, counted from 0
-abbrev pub first_of : {A : Type 0} → List A → Option A
-first_of [] = None
-first_of (x ∷ xs) = Some x
-
-abbrev pub at_place : {A : Type 0} → ℕ → List A → Option A
-at_place place xs = first_of (drop place xs)
 
 -- whether an act is the coming up of this incarnation
 abbrev pub comes_up : Incarnation → DoorAct → Bool
@@ -51,15 +44,6 @@ comes_up who act = false
 abbrev pub is_fenced : Incarnation → List DoorEntry → Bool
 is_fenced who history = list_any (same_incarnation who) (fenced history)
 
--- the UUID that an act admits this attempt for
-abbrev pub uuid_in : Attempt → NodeAct → List (List ℕ)
-uuid_in a (Admit b uuid) = if same_attempt a b then uuid ∷ [] else []
-uuid_in a act = []
-
--- the UUID of an attempt, in a list
-abbrev pub uuid_of : Attempt → List NodeEntry → List (List ℕ)
-uuid_of a part = flat_map (λ entry. uuid_in a entry.act) part
-
 -- whether pages show just these commits, in this order, and are a whole scan run of records
 abbrev pub shows_commits : List Commit → List ScanPage → Bool
 shows_commits commits pages = is_scan_run pages && pointwise same_commit (commits_on pages) commits
@@ -67,10 +51,6 @@ shows_commits commits pages = is_scan_run pages && pointwise same_commit (commit
 -- a boot serves: its incarnation came up, and then its line's scan run of records was whole and showed just these commits
 abbrev pub is_boot_shown : Incarnation → By → List Commit → List DoorEntry → Bool
 is_boot_shown who by commits seen = followed (λ entry. comes_up who entry.act) (λ since. shows_commits commits (scan_pages who by records_prefix since)) seen
-
--- an attempt runs: its line found no record of its UUID, and then no marker
-abbrev pub is_found_unused : Incarnation → List DoorEntry → List ℕ → Bool
-is_found_unused who own uuid = followed (λ entry. finds_absent who (record_name uuid) entry.act) (list_any (λ entry. finds_absent who (marker_name uuid) entry.act)) own
 
 -- whether a get of this incarnation found a version of this key, id and value
 abbrev pub finds_version : Incarnation → List ℕ → TxnId → List ℕ → DoorAct → Bool
@@ -106,7 +86,7 @@ is_given_up_rightly id known seen = list_any (λ c. same_id id c.id && is_supers
 abbrev pub has_seen : ℕ → List DoorEntry → By → List NodeEntry → NodeAct → Option Reply → Bool
 has_seen node seen by before (Boot inc commits) answer = is_boot_shown (incarnation node inc) by commits seen
 has_seen node seen by before (Down inc) answer = is_fenced (incarnation node inc) seen
-has_seen node seen by before (Begin a) answer = list_any (is_found_unused (incarnation node a.inc) (own_entries by seen)) (uuid_of a (part before))
+has_seen node seen by before (Begin a) answer = knows_unused (incarnation node a.inc) (uuid_of a (part before)) (own_entries by seen)
 has_seen node seen by before (Value a key id place kept) answer = is_fetched (incarnation node a.inc) by key id place seen answer
 has_seen node seen by before (Stored a c) answer = is_stored_by c (own_entries by seen)
 has_seen node seen by before (End a) answer = may_abort (own_entries by seen) (attempt_state a (part before)) answer

@@ -1,9 +1,9 @@
 -- What a node is doing: it is down, it boots, or it serves as one incarnation, with what it has done in that service.
-use Rattle.std.specs.Prelude.{ℕ, max, ◌==◌, Bool, true, false, List, [], ◌∷◌, ◌++◌, Option, Some, None}
+use Rattle.std.specs.Prelude.{Bool, List, None, Option, Some, [], false, max, true, ℕ, ◌++◌, ◌==◌, ◌∷◌}
 use Rattle.std.specs.List.{fold}
 use Rattle.aft_records.specs.declared.stored.Commit.{Commit}
 use Rattle.aft_model.specs.declared.node.NodeAct.{NodeAct}
-use Rattle.aft_model.specs.declared.node.NodeAct.TheVariants.{Booting, Boot, BootStopped, Down}
+use Rattle.aft_model.specs.declared.node.NodeAct.TheVariants.{Boot, BootStopped, Booting, Down}
 use Rattle.aft_model.specs.declared.node.NodeEntry.{NodeEntry}
 
 -- a service: the incarnation, the commits that its boot was shown, and its part of the history, which is what follows the boot

@@ -1,28 +1,25 @@
 -- Which histories the office may have: the rounds of the fault manager, and the collections.
-use Rattle.std.specs.Prelude.{Bool, true, false, not, nat_le, ◌&&◌, List, [], ◌∷◌, ◌++◌, length, take, map, filter, Option, Some, None, is_none, IsTrue, if◌then◌else◌}
-use Rattle.std.specs.List.{list_any, list_all, flat_map, fold, last_or, before_first}
+use Rattle.std.specs.Prelude.{Bool, IsTrue, List, None, Option, Some, [], false, filter, if◌then◌else◌, is_none, length, nat_le, not, take, true, ◌&&◌, ◌++◌, ◌∷◌}
 use Rattle.std.specs.Cmp.Lexicographic.{pointwise}
+use Rattle.std.specs.List.{before_first, flat_map, fold, last_or, list_all, list_any}
 use Rattle.aft_id.specs.declared.txn_id.TxnId.{TxnId}
+use Rattle.aft_id.specs.TxnId.{same_id}
 use Rattle.aft_records.specs.declared.stored.Commit.{Commit}
+use Rattle.aft_records.specs.Commits.{ids_of, is_among, same_commit}
 use Rattle.aft_model.specs.declared.caller.By.{By}
 use Rattle.aft_model.specs.declared.door.DoorEntry.{DoorEntry}
 use Rattle.aft_model.specs.declared.office.OfficeAct.{OfficeAct}
-use Rattle.aft_model.specs.declared.office.OfficeAct.TheVariants.{Nothing, Round, Posted, Collecting, Collected}
+use Rattle.aft_model.specs.declared.office.OfficeAct.TheVariants.{Collected, Collecting, Nothing, Posted, Round}
 use Rattle.aft_model.specs.declared.office.OfficeEntry.{OfficeEntry}
 use Rattle.aft_model.specs.declared.reply.Reply.{Reply}
-use Rattle.aft_model.specs.declared.reply.Reply.TheVariants as replies
-use Rattle.aft_model.specs.Committed.{committed, is_among}
+use Rattle.aft_model.specs.Committed.{committed}
 use Rattle.aft_model.specs.DoorKnowledge.{opens}
 use Rattle.aft_model.specs.History.{each_after}
 use Rattle.aft_model.specs.Membership.{the_office}
-use Rattle.aft_model.specs.Readings.{same_id, same_commit}
 use Rattle.aft_model.specs.Replies.{is_answer, is_silent}
-use Rattle.aft_model.specs.ScanRun.{ScanPage, same_line, scan_pages, is_scan_run, commits_on}
+use Rattle.aft_model.specs.ScanRun.{ScanPage, commits_on, is_scan_run, same_line, scan_pages}
 use Rattle.aft_model.specs.Sound.{records_prefix}
-
--- the ids of commits
-abbrev pub ids_of : List Commit → List TxnId
-ids_of commits = map (λ c. c.id) commits
+use Rattle.aft_model.specs.declared.reply.Reply.TheVariants as replies
 
 -- ---- of which commits the office has heard
 
@@ -95,12 +92,16 @@ may_end_with (Some replies.TooManyRecords) = true
 may_end_with (Some replies.NoMemory) = true
 may_end_with answer = false
 
--- what an entry that does nothing may answer: why a round or a collection isn't made
+-- what an entry that does nothing may answer: why a round or a collection isn't made, and what came of a round of orphans and of a copy
 abbrev pub may_answer_alone : Option Reply → Bool
 may_answer_alone (Some replies.Collecting) = true
 may_answer_alone (Some replies.StoreFault) = true
 may_answer_alone (Some (replies.Damaged name)) = true
 may_answer_alone (Some replies.TooManyRecords) = true
+may_answer_alone (Some (replies.Orphans deleted kept held fault)) = true
+may_answer_alone (Some replies.TooManyVersions) = true
+may_answer_alone (Some (replies.Copied taken marked)) = true
+may_answer_alone (Some replies.Copying) = true
 may_answer_alone (Some replies.NoMemory) = true
 may_answer_alone answer = false
 

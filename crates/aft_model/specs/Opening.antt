@@ -1,21 +1,21 @@
 -- The opening: the office reads all records, then all markers, then each version of each record, and opens the door where all of it is sound.
-use Rattle.std.specs.Prelude.{ℕ, Bool, true, false, not, ◌&&◌, ◌||◌, ◌==◌, List, [], map, Some}
-use Rattle.std.specs.List.{list_any, list_all, flat_map}
+use Rattle.std.specs.Prelude.{Bool, List, Some, [], false, map, not, true, ℕ, ◌&&◌, ◌==◌, ◌||◌}
+use Rattle.std.specs.List.{flat_map, list_all, list_any}
 use Rattle.std.specs.Option.{option_eq}
 use Rattle.std.specs.Str.{bytes_eq}
-use Rattle.aft_keeper.specs.declared.keeper.Pair.{Pair}
+use Rattle.aft_keeper.specs.declared.keeper.KeeperAnswer.TheVariants.{Failed}
 use Rattle.aft_keeper.specs.declared.keeper.KeeperCall.{KeeperCall}
 use Rattle.aft_keeper.specs.declared.keeper.KeeperCall.TheVariants.{Get, Scan}
-use Rattle.aft_keeper.specs.declared.keeper.KeeperAnswer.TheVariants.{Failed}
+use Rattle.aft_keeper.specs.declared.keeper.Pair.{Pair}
 use Rattle.aft_model.specs.declared.caller.By.{By}
 use Rattle.aft_model.specs.declared.door.DoorAct.{DoorAct}
 use Rattle.aft_model.specs.declared.door.DoorAct.TheVariants.{Call, Opened}
 use Rattle.aft_model.specs.declared.door.DoorEntry.{DoorEntry}
 use Rattle.aft_model.specs.Evidence.{shown_pairs}
-use Rattle.aft_model.specs.Membership.{the_office, same_incarnation, incarnation}
+use Rattle.aft_model.specs.Membership.{incarnation, same_incarnation, the_office}
 use Rattle.aft_model.specs.Readings.{version_name}
-use Rattle.aft_model.specs.ScanRun.{ScanPage, same_line, scan_pages, page_limit, goes_on, is_scan_run}
-use Rattle.aft_model.specs.Sound.{records_prefix, markers_prefix, recorded, is_sound}
+use Rattle.aft_model.specs.ScanRun.{ScanPage, goes_on, is_scan_run, page_limit, same_line, scan_pages}
+use Rattle.aft_model.specs.Sound.{is_sound, markers_prefix, recorded, records_prefix}
 
 -- the line of the opening
 abbrev pub opening : By

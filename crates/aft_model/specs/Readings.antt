@@ -1,26 +1,21 @@
 -- Which bytes have a reading for the name that they stand under.
-use Rattle.std.specs.Prelude.{ℕ, Bool, not, ◌&&◌, List, [], ◌∷◌, length, ◌==◌, ◌+◌, Result, Ok, Err, if◌then◌else◌}
-use Rattle.std.specs.List.{list_any}
+use Rattle.std.specs.Prelude.{Bool, Err, List, Ok, Result, [], if◌then◌else◌, length, not, ℕ, ◌&&◌, ◌+◌, ◌==◌, ◌∷◌}
 use Rattle.std.specs.Cmp.Lexicographic.{pointwise}
+use Rattle.std.specs.List.{list_any}
 use Rattle.std.specs.Str.{bytes_eq}
 use Rattle.aft_id.specs.declared.txn_id.TxnId.{TxnId}
+use Rattle.aft_id.specs.TxnId.{same_id}
 use Rattle.aft_keeper.specs.declared.keeper.Pair.{Pair}
 use Rattle.aft_records.specs.declared.fault.RecordFault.{RecordFault}
-use Rattle.aft_records.specs.declared.name.Name.TheVariants.{VersionOf, CommitOf, RetiredOf}
+use Rattle.aft_records.specs.declared.name.Name.TheVariants.{CommitOf, RetiredOf, VersionOf}
 use Rattle.aft_records.specs.declared.stored.Commit.{Commit}
-use Rattle.aft_records.specs.declared.stored.Version.{Version}
 use Rattle.aft_records.specs.declared.stored.Marker.{Marker}
-use Rattle.aft_records.specs.declared.stored.Marker.TheVariants.{Full, Done}
+use Rattle.aft_records.specs.declared.stored.Marker.TheVariants.{Done, Full}
+use Rattle.aft_records.specs.declared.stored.Record.{Record}
+use Rattle.aft_records.specs.declared.stored.Version.{Version}
+use Rattle.aft_records.specs.Commits.{same_commit}
 use Rattle.aft_records.specs.Names.{name_text}
-use Rattle.aft_records.specs.Reading.{commit_of, version_of, marker_of}
-
--- whether two ids are the same
-abbrev pub same_id : TxnId → TxnId → Bool
-same_id a b = a.time == b.time && bytes_eq a.uuid b.uuid
-
--- whether two commits are the same
-abbrev pub same_commit : Commit → Commit → Bool
-same_commit a b = same_id a.id b.id && pointwise bytes_eq a.keys b.keys
+use Rattle.aft_records.specs.Reading.{commit_of, marker_of, record_of, version_of}
 
 -- the id of a marker
 abbrev pub id_of_marker : Marker → TxnId
@@ -42,9 +37,17 @@ abbrev pub read_under : {A : Type 0} → List ℕ → (A → List ℕ) → Resul
 read_under name its_name (Ok x) = if bytes_eq name (its_name x) then x ∷ [] else []
 read_under name its_name (Err e) = []
 
--- the commit whose record a pair is, in any format of records, under the name of its UUID
+-- the commit whose record a pair is, in either format, under the name of its UUID
 abbrev pub records_in : Pair → List Commit
 records_in pair = read_under pair.name (λ c. record_name c.id.uuid) (commit_of pair.bytes)
+
+-- the record of the second format that a pair is, under the name of its UUID
+abbrev pub written_in : Pair → List Record
+written_in pair = read_under pair.name (λ r. record_name r.commit.id.uuid) (record_of pair.bytes)
+
+-- the commit whose record a pair is in the first format
+abbrev pub first_format_in : Pair → List Commit
+first_format_in pair = if length (written_in pair) == 0 then records_in pair else []
 
 -- the marker that a pair is, under the name of its UUID
 abbrev pub markers_in : Pair → List Marker
@@ -57,6 +60,11 @@ versions_in pair = read_under pair.name (λ v. version_name v.key v.id) (version
 -- whether a pair is the record of this commit
 abbrev pub is_record_of : Commit → Pair → Bool
 is_record_of c pair = list_any (same_commit c) (records_in pair)
+
+-- whether two records are the same
+abbrev pub same_record : Record → Record → Bool
+same_record a b =
+    same_commit a.commit b.commit && a.origin.node == b.origin.node && a.origin.inc == b.origin.inc && pointwise same_id a.origin.reads b.origin.reads
 
 -- whether a pair is a version of this key and id, of any value
 abbrev pub is_version_at : List ℕ → TxnId → Pair → Bool

@@ -1,14 +1,14 @@
 -- Whether two replies are the same, and what an entry answers.
-use Rattle.std.specs.Prelude.{Bool, true, false, ◌==◌, ◌&&◌, List, Option, Some, None, is_none}
+use Rattle.std.specs.Prelude.{Bool, List, None, Option, Some, false, is_none, true, ◌&&◌, ◌==◌}
 use Rattle.std.specs.Cmp.Lexicographic.{pointwise}
 use Rattle.std.specs.Str.{bytes_eq}
+use Rattle.aft_id.specs.TxnId.{same_id}
 use Rattle.aft_model.specs.declared.choice.Blocked.{Blocked}
 use Rattle.aft_model.specs.declared.reply.Judged.{Judged}
-use Rattle.aft_model.specs.declared.reply.Verdict.{Verdict}
-use Rattle.aft_model.specs.declared.reply.Verdict.TheVariants.{Retired, Held, Fault}
 use Rattle.aft_model.specs.declared.reply.Reply.{Reply}
-use Rattle.aft_model.specs.declared.reply.Reply.TheVariants.{Begun, Joined, Committed, Busy, Stored, Own, Value, Absent, NoValidVersion, Missing, Damaged, Ended, Aborted, StoreFault, InDoubt, NodeDown, NoTransaction, Committing, TooManyKeys, OpenReads, ClockEnd, Crashed, NotUp, Started, IsUp, IsBooting, TooManyRecords, Announced, Learned, Dropped, Managed, Collected, Collecting, NoMemory}
-use Rattle.aft_model.specs.Readings.{same_id}
+use Rattle.aft_model.specs.declared.reply.Reply.TheVariants.{Aborted, Absent, Announced, Begun, Busy, ClockEnd, Collected, Collecting, Committed, Committing, Copied, Copying, Crashed, Damaged, Dropped, Ended, Forgot, Forgotten, InDoubt, IsBooting, IsUp, Joined, Kept, Learned, Managed, Missing, NoMemory, NoTransaction, NoValidVersion, NodeDown, NotUp, OpenReads, Orphans, Own, Started, StoreFault, Stored, TooManyKeys, TooManyRecords, TooManyVersions, Unknown, Value}
+use Rattle.aft_model.specs.declared.reply.Verdict.{Verdict}
+use Rattle.aft_model.specs.declared.reply.Verdict.TheVariants.{Fault, Held, Retired}
 
 -- whether two blockers are the same
 abbrev pub same_blocked : Blocked → Blocked → Bool
@@ -64,6 +64,14 @@ same_reply (Dropped count) (Dropped count') = count == count'
 same_reply (Managed heard missed) (Managed heard' missed') = heard == heard' && missed == missed'
 same_reply (Collected judged) (Collected judged') = pointwise same_judged judged judged'
 same_reply Collecting Collecting = true
+same_reply (Forgot id) (Forgot id') = same_id id id'
+same_reply (Kept id) (Kept id') = same_id id id'
+same_reply (Unknown uuid) (Unknown uuid') = bytes_eq uuid uuid'
+same_reply (Forgotten uuid) (Forgotten uuid') = bytes_eq uuid uuid'
+same_reply (Orphans deleted kept held fault) (Orphans deleted' kept' held' fault') = deleted == deleted' && kept == kept' && held == held' && fault == fault'
+same_reply TooManyVersions TooManyVersions = true
+same_reply (Copied taken marked) (Copied taken' marked') = taken == taken' && marked == marked'
+same_reply Copying Copying = true
 same_reply NoMemory NoMemory = true
 same_reply a b = false
 

@@ -1,19 +1,18 @@
 -- The text of a reply: its words, with one space between them.
-use Rattle.std.specs.Prelude.{ℕ, Bool, not, ◌==◌, ◌&&◌, List, [], ◌∷◌, ◌++◌, length, nat_eq, codes, if◌then◌else◌}
-use Rattle.std.specs.List.{list_all, flat_map, starts_with, join_with_byte}
+use Rattle.std.specs.Prelude.{Bool, List, [], codes, if◌then◌else◌, length, nat_eq, not, ℕ, ◌&&◌, ◌++◌, ◌==◌, ◌∷◌}
 use Rattle.std.specs.Fmt.{decimal}
+use Rattle.std.specs.List.{flat_map, join_with_byte, list_all, starts_with}
 use Rattle.hex.specs.Hex.{encode_lower}
 use Rattle.uuid.specs.Text.{hyphenated_text, lower}
-use Rattle.aft_id.specs.TxnId.{zero_id, id_text}
 use Rattle.aft_id.specs.declared.txn_id.TxnId.{TxnId}
+use Rattle.aft_id.specs.TxnId.{id_text, same_id, zero_id}
 use Rattle.aft_records.specs.Limits.{is_key_byte}
 use Rattle.aft_model.specs.declared.choice.Blocked.{Blocked}
 use Rattle.aft_model.specs.declared.reply.Judged.{Judged}
-use Rattle.aft_model.specs.declared.reply.Verdict.{Verdict}
-use Rattle.aft_model.specs.declared.reply.Verdict.TheVariants.{Retired, Held, Fault}
 use Rattle.aft_model.specs.declared.reply.Reply.{Reply}
-use Rattle.aft_model.specs.declared.reply.Reply.TheVariants.{Begun, Joined, Committed, Busy, Stored, Own, Value, Absent, NoValidVersion, Missing, Damaged, Ended, Aborted, StoreFault, InDoubt, NodeDown, NoTransaction, Committing, TooManyKeys, OpenReads, ClockEnd, Crashed, NotUp, Started, IsUp, IsBooting, TooManyRecords, Announced, Learned, Dropped, Managed, Collected, Collecting, NoMemory}
-use Rattle.aft_model.specs.Readings.{same_id}
+use Rattle.aft_model.specs.declared.reply.Reply.TheVariants.{Aborted, Absent, Announced, Begun, Busy, ClockEnd, Collected, Collecting, Committed, Committing, Copied, Copying, Crashed, Damaged, Dropped, Ended, Forgot, Forgotten, InDoubt, IsBooting, IsUp, Joined, Kept, Learned, Managed, Missing, NoMemory, NoTransaction, NoValidVersion, NodeDown, NotUp, OpenReads, Orphans, Own, Started, StoreFault, Stored, TooManyKeys, TooManyRecords, TooManyVersions, Unknown, Value}
+use Rattle.aft_model.specs.declared.reply.Verdict.{Verdict}
+use Rattle.aft_model.specs.declared.reply.Verdict.TheVariants.{Fault, Held, Retired}
 
 -- words with one space between each two
 abbrev pub spaced : List (List ℕ) → List ℕ
@@ -84,6 +83,14 @@ reply_words (Dropped count) = codes "dropped" ∷ decimal count ∷ []
 reply_words (Managed heard missed) = codes "manager" ∷ codes "heard" ∷ decimal heard ∷ codes "missed" ∷ decimal missed ∷ []
 reply_words (Collected judged) = codes "collected" ∷ flat_map judged_words judged
 reply_words Collecting = codes "collecting" ∷ []
+reply_words (Forgot id) = codes "forgot" ∷ id_word id ∷ []
+reply_words (Kept id) = codes "kept" ∷ id_word id ∷ []
+reply_words (Unknown uuid) = codes "unknown" ∷ uuid_word uuid ∷ []
+reply_words (Forgotten uuid) = codes "forgotten" ∷ uuid_word uuid ∷ []
+reply_words (Orphans deleted kept held fault) = codes "orphans" ∷ codes "deleted" ∷ decimal deleted ∷ codes "kept" ∷ decimal kept ∷ codes "held" ∷ decimal held ∷ codes "fault" ∷ decimal fault ∷ []
+reply_words TooManyVersions = codes "too-many-versions" ∷ []
+reply_words (Copied taken marked) = codes "copied" ∷ decimal taken ∷ codes "marked" ∷ decimal marked ∷ []
+reply_words Copying = codes "copying" ∷ []
 reply_words NoMemory = codes "no-memory" ∷ []
 
 -- the text of a reply

@@ -1,17 +1,17 @@
 -- Scan runs: pages of 64 pairs of one caller, for one line, from the first name of a prefix to its last.
-use Rattle.std.specs.Prelude.{ℕ, nat_lt, ◌==◌, ◌&&◌, Bool, true, false, List, [], ◌∷◌, length, Option, Some, None, if◌then◌else◌}
+use Rattle.std.specs.Prelude.{Bool, List, None, Option, Some, [], false, if◌then◌else◌, length, nat_lt, true, ℕ, ◌&&◌, ◌==◌, ◌∷◌}
 use Rattle.std.specs.List.{flat_map, last_or}
 use Rattle.std.specs.Option.{option_map}
 use Rattle.std.specs.Str.{bytes_eq}
-use Rattle.aft_keeper.specs.declared.keeper.Pair.{Pair}
-use Rattle.aft_keeper.specs.declared.keeper.KeeperCall.TheVariants.{Scan}
 use Rattle.aft_keeper.specs.declared.keeper.KeeperAnswer.TheVariants.{Page}
+use Rattle.aft_keeper.specs.declared.keeper.KeeperCall.TheVariants.{Scan}
+use Rattle.aft_keeper.specs.declared.keeper.Pair.{Pair}
 use Rattle.aft_records.specs.declared.stored.Commit.{Commit}
 use Rattle.aft_model.specs.declared.caller.By.{By}
 use Rattle.aft_model.specs.declared.door.DoorAct.{DoorAct}
 use Rattle.aft_model.specs.declared.door.DoorAct.TheVariants.{Call}
 use Rattle.aft_model.specs.declared.door.DoorEntry.{DoorEntry}
-use Rattle.aft_model.specs.Membership.{Incarnation, same_incarnation, incarnation}
+use Rattle.aft_model.specs.Membership.{Incarnation, incarnation, same_incarnation}
 use Rattle.aft_model.specs.Sound.{recorded}
 
 -- the most pairs that a page of a run lists

@@ -1,14 +1,14 @@
 -- Which pairs of a store are sound together, and which of them offends first.
-use Rattle.std.specs.Prelude.{ℕ, Bool, false, not, ◌&&◌, ◌||◌, List, ◌++◌, length, ◌==◌, map, filter, Option, Some, None, nat_eq, IsTrue, codes, if◌then◌else◌}
-use Rattle.std.specs.List.{list_any, flat_map, fold, starts_with}
-use Rattle.aft_keeper.specs.Contents.{name_lt}
+use Rattle.std.specs.Prelude.{Bool, IsTrue, List, None, Option, Some, codes, false, filter, if◌then◌else◌, length, map, nat_eq, not, ℕ, ◌&&◌, ◌++◌, ◌==◌, ◌||◌}
+use Rattle.std.specs.List.{flat_map, fold, list_any, starts_with}
 use Rattle.aft_keeper.specs.declared.keeper.Pair.{Pair}
+use Rattle.aft_keeper.specs.Contents.{name_lt}
 use Rattle.aft_records.specs.declared.stored.Commit.{Commit}
 use Rattle.aft_records.specs.declared.stored.Marker.{Marker}
-use Rattle.aft_records.specs.declared.stored.Marker.TheVariants.{Full, Done}
-use Rattle.aft_model.specs.Readings.{same_commit, version_name, records_in, markers_in, is_version_at}
+use Rattle.aft_records.specs.declared.stored.Marker.TheVariants.{Done, Full}
+use Rattle.aft_records.specs.Commits.{has_uuid, same_commit}
 use Rattle.aft_records.specs.Superseded.{is_superseded}
-use Rattle.aft_model.specs.Committed.{has_uuid}
+use Rattle.aft_model.specs.Readings.{is_version_at, markers_in, records_in, version_name}
 
 -- the prefixes of the names of records and of markers
 abbrev pub records_prefix : List ℕ

@@ -1,11 +1,11 @@
 -- A commit that is whole in the store: its record and each of its versions are there.
-use Rattle.std.specs.Prelude.{ℕ, Bool, false, ◌&&◌, List, ◌∷◌, Option, Some, None, IsTrue}
+use Rattle.std.specs.Prelude.{Bool, IsTrue, List, None, Option, Some, false, ℕ, ◌&&◌, ◌∷◌}
 use Rattle.std.specs.List.{list_all}
 use Rattle.std.specs.Str.{bytes_eq}
 use Rattle.aft_records.specs.declared.stored.Commit.{Commit}
 use Rattle.aft_model.specs.declared.door.DoorEntry.{DoorEntry}
-use Rattle.aft_model.specs.MayHold.{MayHold, Unknown, OneOf, may_hold}
-use Rattle.aft_model.specs.Readings.{record_name, version_name, is_record_of, is_version_at}
+use Rattle.aft_model.specs.MayHold.{MayHold, OneOf, Unknown, may_hold}
+use Rattle.aft_model.specs.Readings.{is_record_of, is_version_at, record_name, version_name}
 
 -- whether an outcome is bytes, and these pass a test
 abbrev pub is_there : (List ℕ → Bool) → Option (List ℕ) → Bool

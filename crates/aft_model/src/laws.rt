@@ -1,30 +1,35 @@
 //! Laws of this crate's definitions, as calls that do nothing and promise them.
 
-ghost use Rattle.std.specs.Prelude.{◌≡◌, ◌++◌, ℕ, List, [], ◌∷◌, IsTrue, IsFalse};
-ghost use Rattle.std.specs.List.{Contains};
+ghost use Rattle.std.specs.Prelude.{◌≡◌, ◌++◌, ◌==◌, ℕ, List, [], ◌∷◌, Some, is_some, IsTrue, IsFalse};
+ghost use Rattle.std.specs.List.{list_any};
 ghost use Rattle.aft_id.specs.declared.txn_id.TxnId.{TxnId};
 ghost use Rattle.aft_records.specs.declared.stored.Commit.{Commit};
 ghost use Rattle.aft_model.specs.declared.door.DoorEntry.{DoorEntry};
 ghost use Rattle.aft_records.specs.Superseded.{Superseded};
-ghost use Rattle.aft_model.specs.Asked.{Asked, Ran};
-ghost use Rattle.aft_model.specs.Causes.{ExactlyCaused};
-ghost use Rattle.aft_model.specs.FinishedText.{answers_of, line_of};
-ghost use Rattle.aft_model.specs.Lines.{lines};
-ghost use Rattle.aft_model.specs.Views.{LeavesOutNothing, view_of};
-ghost use Rattle.aft_model.specs.declared.reply.Reply.{Reply};
-ghost use Rattle.aft_model.specs.declared.script.Line.{Line};
+ghost use Rattle.aft_model.specs.Claims.{forgotten, claim_place, holder, is_claim_of};
 ghost use Rattle.aft_model.specs.Committed.{Committed, Marked, committed};
-ghost use Rattle.aft_model.specs.DoorKnowledge.{is_open, knows_unused, knows_stored, knows_superseded, knows_marked, knows_record_gone, knows_versions_gone};
+ghost use Rattle.aft_model.specs.DoorKnowledge.{is_open, knows_unused, knows_stored, knows_superseded, knows_marked, knows_record_gone, knows_versions_gone, knows_short, knows_orphan};
 ghost use Rattle.aft_model.specs.Membership.{Incarnation};
 ghost use Rattle.aft_model.specs.Course.{KeepsCourse, DeletesNothing, puts_record};
+ghost use Rattle.aft_model.specs.History.{at_place};
 ghost use Rattle.aft_model.specs.Honest.{Honest, is_honest_about};
 ghost use Rattle.aft_model.specs.LegalDoor.{Legal};
+ghost use Rattle.aft_model.specs.Stages.{KeepsStages};
 
-/// What a history has acknowledged or shown stays so, whatever is added.
+/// What a history has acknowledged or shown stays so, whatever is added, and a UUID that is forgotten stays
+/// forgotten.
 pub fn facts_grow()
     ensures committed { (c : Commit) (history more : List DoorEntry) → Committed c history → Committed c (history ++ more) }
     ensures marked { (c : Commit) (history more : List DoorEntry) → Marked c history → Marked c (history ++ more) }
     ensures superseded { (c : Commit) (history more : List DoorEntry) → Superseded c (committed history) → Superseded c (committed (history ++ more)) }
+    ensures forgotten { (uuid : List ℕ) (history more : List DoorEntry) → IsTrue (forgotten uuid history) → IsTrue (forgotten uuid (history ++ more)) }
+{}
+
+/// The place of the claim by which a UUID is held is that of a claim of it, and stays while somebody holds the UUID
+/// and nobody claims it anew.
+pub fn claims_have_places()
+    ensures of_a_claim { (uuid : List ℕ) (place : ℕ) (history : List DoorEntry) → claim_place uuid history ≡ Some place → (entry : DoorEntry) × (at_place place history ≡ Some entry) × IsTrue (is_claim_of uuid entry.act) }
+    ensures stays { (uuid : List ℕ) (place : ℕ) (history more : List DoorEntry) → claim_place uuid history ≡ Some place → IsFalse (list_any (λ entry. is_claim_of uuid entry.act) more) → IsTrue (is_some (holder uuid (history ++ more))) → claim_place uuid (history ++ more) ≡ Some place }
 {}
 
 /// What the caller of each rule of the door must know stays true, whatever is added.
@@ -35,6 +40,8 @@ pub fn knowledge_stays()
     ensures superseded { (c : Commit) (history more : List DoorEntry) → IsTrue (knows_superseded c history) → IsTrue (knows_superseded c (history ++ more)) }
     ensures marked { (uuid : List ℕ) (history more : List DoorEntry) → IsTrue (knows_marked uuid history) → IsTrue (knows_marked uuid (history ++ more)) }
     ensures record_gone { (id : TxnId) (history more : List DoorEntry) → IsTrue (knows_record_gone id history) → IsTrue (knows_record_gone id (history ++ more)) }
+    ensures short { (who : Incarnation) (uuid : List ℕ) (history more : List DoorEntry) → IsTrue (knows_short who uuid history) → IsTrue (knows_short who uuid (history ++ more)) }
+    ensures orphan { (id : TxnId) (place : ℕ) (history more : List DoorEntry) → IsTrue (knows_orphan id place history) → IsTrue (knows_orphan id place (history ++ more)) }
     ensures versions_gone { (id : TxnId) (history more : List DoorEntry) → IsTrue (knows_versions_gone id history) → IsTrue (knows_versions_gone id (history ++ more)) }
 {}
 
@@ -44,14 +51,15 @@ pub fn honest_everywhere()
 {}
 
 /// In a history without deletes, over a store that keeps what it acknowledged, an id commits once, if each
-/// record was put when it was its caller's turn: since a claim that it had not released the caller had found no
-/// record, and it had put none since.
+/// record that a node put was put when it was the node's turn: since a claim that it had not released it had found
+/// no record, and it had put none since. The office puts a record again, in the second format, and so it still is
+/// that of the one commit; a node puts no record of what is committed.
 pub fn id_commits_once()
     ensures one_commit { (c d : Commit) (history : List DoorEntry) → Legal history → Honest history → KeepsCourse history → DeletesNothing history → Committed c history → Committed d history → c.id.uuid ≡ d.id.uuid → c ≡ d }
-    ensures no_more_puts { (c : Commit) (who : Incarnation) (history : List DoorEntry) (entry : DoorEntry) → Legal (history ++ entry ∷ []) → Honest (history ++ entry ∷ []) → KeepsCourse (history ++ entry ∷ []) → DeletesNothing history → Committed c history → IsFalse (puts_record who c.id.uuid entry.act) }
+    ensures no_more_puts { (c : Commit) (who : Incarnation) (history : List DoorEntry) (entry : DoorEntry) → IsFalse (who.node == 0) → Legal (history ++ entry ∷ []) → Honest (history ++ entry ∷ []) → KeepsCourse (history ++ entry ∷ []) → DeletesNothing history → Committed c history → IsFalse (puts_record who c.id.uuid entry.act) }
 {}
 
-/// Where a run leaves out no reply that comes exactly where its cause is, each of its replies leaves out no other.
-pub fn replies_are_exact()
-    ensures { (asked : Asked) (ran : Ran) (line : Line) (reply : Reply) → LeavesOutNothing asked ran → Contains (lines asked) line → Contains (answers_of (line_of line) ran) reply → ExactlyCaused (view_of asked ran line) reply }
+/// A history that keeps the stages of the lines that commit keeps their course, as the law above takes it.
+pub fn stages_keep_course()
+    ensures { (history : List DoorEntry) → KeepsStages history → KeepsCourse history }
 {}

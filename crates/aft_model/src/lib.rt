@@ -22,12 +22,14 @@ pub use caller::{Attempt, By, Caller, Hold};
 pub use choice::{Blocked, Choice, Picked};
 pub use door::{DoorAct, DoorEntry};
 pub use laws::{
-    facts_grow, honest_everywhere, id_commits_once, knowledge_stays, replies_are_exact,
+    claims_have_places, facts_grow, honest_everywhere, id_commits_once, knowledge_stays,
+    stages_keep_course,
 };
 pub use mail::{MailAct, MailEntry};
 pub use node::{NodeAct, NodeEntry};
 pub use node_laws::{
-    known_within_incarnation, newest_is_not_superseded, read_commit_fits, reads_stay_atomic,
+    known_ascends, known_within_incarnation, newest_is_not_superseded, read_commit_fits,
+    reads_stay_atomic,
 };
 pub use office::{OfficeAct, OfficeEntry};
 pub use place::Where;

@@ -2,7 +2,7 @@
 
 ghost use Rattle.std.specs.Prelude.{◌≡◌, ◌++◌, ℕ, List, [], ◌∷◌, None, Some, IsTrue, IsFalse};
 ghost use Rattle.std.specs.List.{list_any};
-ghost use Rattle.aft_id.specs.TxnId.{zero_id};
+ghost use Rattle.aft_id.specs.TxnId.{zero_id, same_id};
 ghost use Rattle.aft_id.specs.declared.txn_id.TxnId.{TxnId};
 ghost use Rattle.aft_records.specs.Superseded.{Superseded, is_superseded, wrote};
 ghost use Rattle.aft_records.specs.declared.stored.Commit.{Commit};
@@ -13,16 +13,15 @@ ghost use Rattle.aft_model.specs.declared.read_set.ReadPair.{ReadPair};
 ghost use Rattle.aft_model.specs.Attempts.{is_pinned, is_read};
 ghost use Rattle.aft_model.specs.AtomicReads.{Atomic};
 ghost use Rattle.aft_model.specs.Choice.{fits, choice, wrote_at};
-ghost use Rattle.aft_model.specs.Committed.{is_among};
-ghost use Rattle.aft_model.specs.Known.{has_id, known, latest, latest_le};
-ghost use Rattle.aft_model.specs.Readings.{same_id};
+ghost use Rattle.aft_records.specs.Commits.{has_id, ids_ascend, is_among, latest, latest_le};
+ghost use Rattle.aft_model.specs.Known.{known};
 ghost use Rattle.aft_model.specs.LegalNode.{LegalNode};
 ghost use Rattle.aft_model.specs.NodeState.{node_state, serves, part};
 
-/// What a get adds to a read set that is atomic leaves it atomic.
+/// What a get adds to a read set that is atomic leaves it atomic; for an absent key, where the zero id is no known commit's.
 pub fn reads_stay_atomic()
     ensures fitting { (key : List ℕ) (id : TxnId) (reads : List ReadPair) (known : List Commit) → Atomic reads known → IsTrue (fits key id reads known) → Atomic (reads ++ record { key = key; id = id } ∷ []) known }
-    ensures absent { (key : List ℕ) (reads : List ReadPair) (known : List Commit) → Atomic reads known → IsFalse (list_any (wrote key) known) → Atomic (reads ++ record { key = key; id = zero_id } ∷ []) known }
+    ensures absent { (key : List ℕ) (reads : List ReadPair) (known : List Commit) → Atomic reads known → IsFalse (has_id zero_id known) → IsFalse (list_any (wrote key) known) → Atomic (reads ++ record { key = key; id = zero_id } ∷ []) known }
 {}
 
 /// Where a commit that was read wrote the key, a get of an atomic read set isn't blocked.
@@ -41,4 +40,9 @@ pub fn known_within_incarnation()
 /// The greatest commit of a key is not superseded by the commits that it is the greatest of.
 pub fn newest_is_not_superseded()
     ensures { (key : List ℕ) (c : Commit) (commits : List Commit) → IsTrue (wrote key c) → latest key commits ≡ Some c.id → IsFalse (is_superseded c commits) }
+{}
+
+/// What a node knows stands in the order of ids, each id once.
+pub fn known_ascends()
+    ensures { (history : List NodeEntry) → IsTrue (ids_ascend (known history)) }
 {}

@@ -96,6 +96,22 @@ impl fmt::Display for Words<'_> {
             Reply::Managed { heard, missed } => write!(f, "manager heard {heard} missed {missed}"),
             Reply::Collected(judged) => write!(f, "collected{}", JudgedWords(judged.as_slice())),
             Reply::Collecting => f.write_str("collecting"),
+            Reply::Forgot(id) => write!(f, "forgot {}", Id(*id)),
+            Reply::Kept(id) => write!(f, "kept {}", Id(*id)),
+            Reply::Unknown(uuid) => write!(f, "unknown {}", uuid.hyphenated()),
+            Reply::Forgotten(uuid) => write!(f, "forgotten {}", uuid.hyphenated()),
+            Reply::Orphans {
+                deleted,
+                kept,
+                held,
+                fault,
+            } => write!(
+                f,
+                "orphans deleted {deleted} kept {kept} held {held} fault {fault}"
+            ),
+            Reply::TooManyVersions => f.write_str("too-many-versions"),
+            Reply::Copied { taken, marked } => write!(f, "copied {taken} marked {marked}"),
+            Reply::Copying => f.write_str("copying"),
             Reply::NoMemory => f.write_str("no-memory"),
         }
     }

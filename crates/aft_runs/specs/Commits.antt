@@ -1,16 +1,20 @@
 -- Runs in which one commit is left open: with one by the rules they are legal, and with another they are refused.
 use Rattle.std.specs.Prelude.{ℕ, ◌+◌, List, [], ◌∷◌, ◌++◌, map, length}
+use Rattle.aft_id.specs.declared.txn_id.TxnId.{TxnId}
+use Rattle.aft_id.specs.TxnId.{zero_id}
 use Rattle.aft_keeper.specs.declared.keeper.KeeperCall.TheVariants as calls
+use Rattle.aft_keeper.specs.declared.keeper.Pair.{Pair}
 use Rattle.aft_model.specs.Membership.{incarnation}
 use Rattle.aft_model.specs.declared.door.DoorEntry.{DoorEntry}
 use Rattle.aft_model.specs.declared.node.NodeAct.TheVariants as turns
+use Rattle.aft_model.specs.declared.read_set.ReadPair.{ReadPair}
 use Rattle.aft_model.specs.declared.reply.Reply.TheVariants as replies
 use Rattle.aft_model.specs.declared.script.Command.TheVariants as commands
-use Rattle.aft_histories.specs.Entries.{u, x, y, record_of, record_pair}
+use Rattle.aft_histories.specs.Entries.{u, id_of, x, y, record_of, record_pair, old_record}
 use Rattle.aft_runs.specs.Entries.{stores, misses, finds, fails, turn, answering}
 use Rattle.aft_runs.specs.Lines.{opening, opens, boots, attempt, begins, puts, fetches, commits, releases}
 use Rattle.aft_runs.specs.Reads.{x_hi}
-use Rattle.aft_runs.specs.Words.{write, writes, hi, a, commit_of, version_pairs}
+use Rattle.aft_runs.specs.Words.{Writes, write, writes, having_read, hi, a, commit_of, record_at, version_pairs}
 use Rattle.aft_runs.specs.Works.{Work, Run, run, by, at, nodes, asks}
 
 -- a transaction has put a value of x, and commits so
@@ -77,9 +81,9 @@ reads_clock now = record (commits 8 (by 1 3) (attempt 1 1 1) (writes now 1 (writ
       ∷ answering 11 (by 1 3) (turns.End (attempt 1 1 1)) (replies.Committed (writes now 1 []).id) ∷ []);
 }
 
--- another transaction reads what was committed at the time 1000, and commits a value of y at this time
-abbrev pub commits_at : ℕ → Run
-commits_at time = run (nodes 1) (
+-- another transaction reads what was committed at the time 1000, puts a value of y, and commits so
+abbrev pub reads_and : Work → Run
+reads_and commit = run (nodes 1) (
     opens
     ∷ boots 3 opening 1 1 []
     ∷ begins 5 (by 1 1) (attempt 1 1 1) 1
@@ -88,4 +92,46 @@ commits_at time = run (nodes 1) (
     ∷ begins 11 (by 1 4) (attempt 1 1 2) 2
     ∷ fetches 14 (by 1 5) (attempt 1 1 2) x_hi.id (write x hi)
     ∷ puts 15 (by 1 6) (attempt 1 1 2) (write y a)
-    ∷ commits 15 (by 1 7) (attempt 1 1 2) (writes time 2 (write y a ∷ [])) ∷ [])
+    ∷ commit ∷ [])
+
+-- what it writes, at a time
+abbrev pub y_at : ℕ → Writes
+y_at time = having_read (x_hi.id ∷ []) (writes time 2 (write y a ∷ []))
+
+-- it commits at this time
+abbrev pub commits_at : ℕ → Run
+commits_at time = reads_and (commits 15 (by 1 7) (attempt 1 1 2) (y_at time))
+
+-- ---- its record
+
+-- what it writes, above what it has read
+abbrev pub y_later : Writes
+y_later = y_at 1001
+
+-- it stores this as its record
+abbrev pub records_as : Pair → Run
+records_as pair = reads_and (record (commits 15 (by 1 7) (attempt 1 1 2) y_later) {
+  door = map (stores (by 1 7) (incarnation 1 1)) (version_pairs y_later ++ pair ∷ []) ++ releases (by 1 7) (attempt 1 1 2) (u 2) ∷ [];
+})
+
+-- that its incarnation wrote it and it had read at these ids
+abbrev pub of_reads : List TxnId → Pair
+of_reads ids = record_at 1 1 (having_read ids y_later)
+
+-- that another incarnation wrote it
+abbrev pub of_another : Pair
+of_another = record_at 1 2 y_later
+
+-- it is in the first format
+abbrev pub of_old : Pair
+of_old = old_record (commit_of y_later)
+
+-- reads at the ids of nine times, one of them twice, and of an absent key
+abbrev pub nine_reads : List ReadPair
+nine_reads =
+    record { key = y; id = zero_id } ∷ record { key = y; id = id_of 7 1 }
+    ∷ map (λ time. record { key = x; id = id_of time 1 }) (9 ∷ 3 ∷ 5 ∷ 1 ∷ 7 ∷ 2 ∷ 8 ∷ 4 ∷ 6 ∷ [])
+
+-- the eight that a record names
+abbrev pub eight_ids : List TxnId
+eight_ids = map (λ time. id_of time 1) (2 ∷ 3 ∷ 4 ∷ 5 ∷ 6 ∷ 7 ∷ 8 ∷ 9 ∷ [])

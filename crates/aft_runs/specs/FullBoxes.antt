@@ -1,7 +1,7 @@
 -- A run in which a mailbox is full, so that the manager finds what it refused; and that run where what the box takes is left open.
 use Rattle.std.specs.Prelude.{ℕ, List, [], ◌∷◌, ◌++◌, codes, map, length}
 use Rattle.aft_records.specs.declared.stored.Commit.{Commit}
-use Rattle.aft_model.specs.Asked.{Settings}
+use Rattle.aft_lines.specs.Asked.{Settings}
 use Rattle.aft_model.specs.Membership.{the_office}
 use Rattle.aft_model.specs.declared.mail.MailAct.TheVariants as letters
 use Rattle.aft_model.specs.declared.mail.MailEntry.{MailEntry}
@@ -10,7 +10,7 @@ use Rattle.aft_model.specs.declared.office.OfficeAct.TheVariants as desk
 use Rattle.aft_model.specs.declared.reply.Reply.TheVariants as replies
 use Rattle.aft_model.specs.declared.script.Command.TheVariants as commands
 use Rattle.aft_histories.specs.Entries.{x, y, record_pair}
-use Rattle.aft_model.specs.Office.{ids_of}
+use Rattle.aft_records.specs.Commits.{ids_of}
 use Rattle.aft_runs.specs.Entries.{lists, turn, answering, says, closes}
 use Rattle.aft_runs.specs.Lines.{opening, opens, boots, attempt, begins, puts, fetches, commits}
 use Rattle.aft_runs.specs.Rounds.{posts, takes, learns}

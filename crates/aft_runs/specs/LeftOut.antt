@@ -3,19 +3,18 @@ use Rattle.std.specs.Prelude.{ℕ, ◌-◌, ◌^◌, Bool, List, [], ◌∷◌, 
 use Rattle.std.specs.List.{list_all, flat_map}
 use Rattle.aft_id.specs.declared.txn_id.TxnId.{TxnId}
 use Rattle.aft_keeper.specs.declared.keeper.KeeperCall.TheVariants as calls
-use Rattle.aft_model.specs.Views.{is_left_out_rightly}
+use Rattle.aft_lines.specs.Views.{is_left_out_rightly}
 use Rattle.aft_model.specs.declared.node.NodeAct.TheVariants as turns
 use Rattle.aft_model.specs.declared.reply.Reply.{Reply}
 use Rattle.aft_model.specs.declared.reply.Reply.TheVariants as replies
 use Rattle.aft_model.specs.declared.reply.Verdict.TheVariants as verdicts
 use Rattle.aft_model.specs.declared.script.Command.TheVariants as commands
-use Rattle.aft_histories.specs.Entries.{u, id_of, record_pair}
+use Rattle.aft_histories.specs.Entries.{u, id_of, record_pair, x}
 use Rattle.aft_runs.specs.Entries.{turn, answering, fails, stores}
 use Rattle.aft_runs.specs.Lines.{opening, opens, boots, attempt, caller_of, begins, puts}
 use Rattle.aft_runs.specs.Reads.{x_hi, x_was_absent, both}
 use Rattle.aft_runs.specs.Words.{write, hi, a, b, commit_of, version_pairs}
 use Rattle.aft_runs.specs.Works.{Run, run, by, at, nodes, asks}
-use Rattle.aft_histories.specs.Entries.{x}
 
 -- the ids of the small runs
 abbrev pub ids : List TxnId
@@ -29,13 +28,14 @@ values = hi ∷ a ∷ b ∷ codes "old" ∷ codes "9" ∷ []
 abbrev pub plain : List Reply
 plain =
     replies.Stored ∷ replies.Absent ∷ replies.Ended ∷ replies.Aborted ∷ replies.StoreFault ∷ replies.InDoubt ∷ replies.NoTransaction
-    ∷ replies.Committing ∷ replies.TooManyKeys ∷ replies.ClockEnd ∷ replies.TooManyRecords ∷ replies.Collecting ∷ replies.NoMemory ∷ []
+    ∷ replies.Committing ∷ replies.TooManyKeys ∷ replies.ClockEnd ∷ replies.TooManyRecords ∷ replies.TooManyVersions ∷ replies.Collecting ∷ replies.Copying ∷ replies.NoMemory ∷ []
 
 -- replies that name a UUID, an id or a value
 abbrev pub named : List Reply
 named =
     map (λ n. replies.Begun (u n)) (1 ∷ 2 ∷ 3 ∷ 9 ∷ []) ++ map (λ n. replies.Joined (u n)) (1 ∷ 2 ∷ 3 ∷ 9 ∷ [])
-    ++ map replies.Committed (id_of 1 1 ∷ id_of (2 ^ 48 - 1) 1 ∷ ids) ++ map replies.Missing ids ++ map replies.Own values
+    ++ map (λ n. replies.Unknown (u n)) (1 ∷ 2 ∷ []) ++ map (λ n. replies.Forgotten (u n)) (1 ∷ 2 ∷ [])
+    ++ map replies.Committed (id_of 1 1 ∷ id_of (2 ^ 48 - 1) 1 ∷ ids) ++ map replies.Missing ids ++ map replies.Forgot ids ++ map replies.Kept ids ++ map replies.Own values
     ++ flat_map (λ id. map (replies.Value id) values) ids ++ replies.NoValidVersion (x_was_absent both ∷ []) ∷ replies.NoValidVersion [] ∷ []
 
 -- replies that name an incarnation
@@ -51,6 +51,7 @@ counts =
     flat_map (λ n. replies.OpenReads n ∷ replies.Dropped n ∷ flat_map (λ m.
     replies.Announced n m 0 ∷ replies.Learned n m 0 ∷ replies.Learned n 0 m ∷ replies.Managed n m ∷ []) (0 ∷ 1 ∷ [])) (0 ∷ 1 ∷ [])
     ++ replies.Announced 2 0 0 ∷ replies.Announced 2 0 1 ∷ replies.Announced 1 0 1 ∷ replies.Learned 2 0 0 ∷ replies.Managed 1 2 ∷ replies.Managed 0 2 ∷ replies.Managed 2 0 ∷ replies.Dropped 2
+    ∷ replies.Orphans 0 0 0 0 ∷ replies.Orphans 1 0 0 0 ∷ replies.Copied 0 0 ∷ replies.Copied 1 0 ∷ replies.Copied 1 1
     ∷ replies.Collected [] ∷ replies.Collected (record { id = id_of 1000 1; verdict = verdicts.Retired } ∷ [])
     ∷ replies.Collected (record { id = id_of 1000 1; verdict = verdicts.Held 1 1 } ∷ []) ∷ replies.Collected (record { id = id_of 1000 1; verdict = verdicts.Fault } ∷ []) ∷ []
 

@@ -3,6 +3,7 @@ use Rattle.std.specs.Prelude.{ℕ, ◌+◌, true, List, [], ◌∷◌, ◌++◌,
 use Rattle.aft_id.specs.declared.txn_id.TxnId.{TxnId}
 use Rattle.aft_keeper.specs.declared.keeper.KeeperCall.TheVariants as calls
 use Rattle.aft_records.specs.declared.stored.Commit.{Commit}
+use Rattle.aft_keeper.specs.declared.keeper.Pair.{Pair}
 use Rattle.aft_model.specs.Attempts.{Write}
 use Rattle.aft_model.specs.Membership.{Incarnation, incarnation, the_office}
 use Rattle.aft_model.specs.declared.caller.Attempt.{Attempt}
@@ -17,7 +18,7 @@ use Rattle.aft_model.specs.declared.reply.Reply.TheVariants as replies
 use Rattle.aft_model.specs.declared.script.Command.{Command}
 use Rattle.aft_model.specs.declared.script.Command.TheVariants as commands
 use Rattle.aft_histories.specs.Entries.{u, record_of, marker_of, record_pair}
-use Rattle.aft_runs.specs.Words.{Writes, commit_of, version_pair, version_pairs}
+use Rattle.aft_runs.specs.Words.{Writes, commit_of, record_at, version_pair, version_pairs}
 use Rattle.aft_runs.specs.Works.{Work, by, at, nothing, asks}
 use Rattle.aft_runs.specs.Entries.{does, stores, misses, finds, fails, lists, turn, answering}
 
@@ -27,18 +28,26 @@ use Rattle.aft_runs.specs.Entries.{does, stores, misses, finds, fails, lists, tu
 abbrev pub opening : By
 opening = by 0 0
 
--- the check of an empty store
-abbrev pub opens : Work
-opens = record nothing {
-  door = lists opening the_office (codes "c/") [] ∷ lists opening the_office (codes "r/") [] ∷ does opening acts.Opened ∷ [];
+-- the check of a store that has these records, markers and versions
+abbrev pub opens_on : List Pair → List Pair → List Pair → Work
+opens_on records markers versions = record nothing {
+  door = lists opening the_office (codes "c/") records ∷ lists opening the_office (codes "r/") markers ∷ map (finds opening the_office) versions ++ does opening acts.Opened ∷ [];
 }
 
--- the boot of an incarnation, which is shown these commits
-abbrev pub boots : ℕ → By → ℕ → ℕ → List Commit → Work
-boots front who node inc commits = record nothing {
-  door = does who (acts.Up node inc) ∷ lists who (incarnation node inc) (codes "c/") (map record_pair commits) ∷ [];
+-- the check of an empty store
+abbrev pub opens : Work
+opens = opens_on [] [] []
+
+-- the boot of an incarnation, which is shown these records, and serves with these commits
+abbrev pub boots_on : ℕ → By → ℕ → ℕ → List Pair → List Commit → Work
+boots_on front who node inc records commits = record nothing {
+  door = does who (acts.Up node inc) ∷ lists who (incarnation node inc) (codes "c/") records ∷ [];
   nodes = at node (turn front who (turns.Booting inc) ∷ answering (front + 2) who (turns.Boot inc commits) (replies.Started node inc) ∷ []);
 }
+
+-- the same where it is shown the records of these commits, which the first incarnation of node 1 wrote
+abbrev pub boots : ℕ → By → ℕ → ℕ → List Commit → Work
+boots front who node inc commits = boots_on front who node inc (map record_pair commits) commits
 
 -- ---- the lines of a transaction
 
@@ -91,10 +100,14 @@ gets_kept front who own id w = record (asks who (commands.Get w.key)) {
   nodes = at own.node (answering front who (turns.Select own w.key (picks.Cached id w.value)) (replies.Value id w.value) ∷ []);
 }
 
+-- the record of what it wrote
+abbrev pub own_record : Attempt → Writes → Pair
+own_record own wrote = record_at own.node own.inc wrote
+
 -- it commits what it wrote
 abbrev pub commits : ℕ → By → Attempt → Writes → Work
 commits front who own wrote = record (asks who commands.Commit) {
-  door = map (stores who (caller_of own)) (version_pairs wrote ++ record_pair (commit_of wrote) ∷ []) ++ releases who own wrote.id.uuid ∷ [];
+  door = map (stores who (caller_of own)) (version_pairs wrote ++ own_record own wrote ∷ []) ++ releases who own wrote.id.uuid ∷ [];
   nodes = at own.node (turn front who (turns.Start own 1000 (commit_of wrote))
       ∷ turn (front + length wrote.each + 1) who (turns.Stored own (commit_of wrote))
       ∷ answering (front + length wrote.each + 2) who (turns.End own) (replies.Committed wrote.id) ∷ []);
@@ -104,8 +117,8 @@ commits front who own wrote = record (asks who commands.Commit) {
 abbrev pub doubts : ℕ → By → Attempt → Writes → Work
 doubts front who own wrote = record (asks who commands.Commit) {
   door = map (stores who (caller_of own)) (version_pairs wrote)
-      ++ fails who (caller_of own) (calls.Put (record_pair (commit_of wrote)).name (record_pair (commit_of wrote)).bytes)
-      ∷ fails who (caller_of own) (calls.Get (record_pair (commit_of wrote)).name) ∷ [];
+      ++ fails who (caller_of own) (calls.Put (own_record own wrote).name (own_record own wrote).bytes)
+      ∷ fails who (caller_of own) (calls.Get (own_record own wrote).name) ∷ [];
   nodes = at own.node (turn front who (turns.Start own 1000 (commit_of wrote))
       ∷ answering (front + length wrote.each + 2) who (turns.Doubt own) replies.InDoubt ∷ []);
 }
@@ -113,7 +126,7 @@ doubts front who own wrote = record (asks who commands.Commit) {
 -- the commit in doubt is tried again, and its record is found
 abbrev pub settles : ℕ → By → Attempt → Writes → Work
 settles front who own wrote = record (asks who commands.Commit) {
-  door = finds who (caller_of own) (record_pair (commit_of wrote)) ∷ releases who own wrote.id.uuid ∷ [];
+  door = finds who (caller_of own) (own_record own wrote) ∷ releases who own wrote.id.uuid ∷ [];
   nodes = at own.node (turn front who (turns.Settle own)
       ∷ turn (front + 1) who (turns.Stored own (commit_of wrote))
       ∷ answering (front + 2) who (turns.End own) (replies.Committed wrote.id) ∷ []);
@@ -148,6 +161,10 @@ crashes front who node inc = record (asks who (commands.Crash node)) {
   nodes = at node (answering (front + 1) who (turns.Down inc) (replies.Crashed node inc) ∷ []);
 }
 
--- an incarnation starts, and is shown these commits
+-- an incarnation starts, and is shown these records, and serves with these commits
+abbrev pub starts_on : ℕ → By → ℕ → ℕ → List Pair → List Commit → Work
+starts_on front who node inc records commits = record (boots_on front who node inc records commits) { lines = (asks who (commands.Start node)).lines }
+
+-- the same where it is shown the records of these commits, which the first incarnation of node 1 wrote
 abbrev pub starts : ℕ → By → ℕ → ℕ → List Commit → Work
-starts front who node inc shown = record (boots front who node inc shown) { lines = (asks who (commands.Start node)).lines }
+starts front who node inc shown = starts_on front who node inc (map record_pair shown) shown

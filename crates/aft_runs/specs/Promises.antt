@@ -1,6 +1,6 @@
 -- The parts of the promise, by name, so that a trace that doesn't keep it shows which of them it breaks.
 use Rattle.std.specs.Prelude.{◌≡◌, Bool, not, List, [], ◌∷◌, filter}
-use Rattle.aft_model.specs.Headline.{reads_atomic_sets, reads_recorded, reads_own_and_repeats, commits_once, whole_until_superseded, loses_nothing, names_blockers}
+use Rattle.aft_lines.specs.Headline.{reads_atomic_sets, reads_recorded, reads_own_and_repeats, commits_once, whole_until_superseded, loses_nothing, names_blockers}
 use Rattle.aft_model.specs.Honest.{Honest}
 use Rattle.aft_model.specs.declared.trace.Trace.{Trace}
 use Rattle.aft_runs.specs.Works.{Run}

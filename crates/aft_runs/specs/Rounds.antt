@@ -2,6 +2,7 @@
 use Rattle.std.specs.Prelude.{ℕ, ◌+◌, ◌==◌, List, [], ◌∷◌, ◌++◌, map, length, codes, if◌then◌else◌}
 use Rattle.aft_id.specs.declared.txn_id.TxnId.{TxnId}
 use Rattle.aft_records.specs.declared.stored.Commit.{Commit}
+use Rattle.aft_keeper.specs.declared.keeper.Pair.{Pair}
 use Rattle.aft_model.specs.Membership.{the_office}
 use Rattle.aft_model.specs.declared.caller.By.{By}
 use Rattle.aft_model.specs.declared.door.DoorAct.TheVariants as acts
@@ -15,7 +16,7 @@ use Rattle.aft_model.specs.declared.reply.Verdict.TheVariants as verdicts
 use Rattle.aft_model.specs.declared.script.Command.TheVariants as commands
 use Rattle.aft_histories.specs.Entries.{version_of, record_pair, full_pair, done_pair}
 use Rattle.aft_runs.specs.Works.{Work, at, nothing, asks}
-use Rattle.aft_model.specs.Office.{ids_of}
+use Rattle.aft_records.specs.Commits.{ids_of}
 use Rattle.aft_runs.specs.Entries.{does, stores, deletes, lists, turn, answering, says, closes}
 
 -- ---- announcements
@@ -57,12 +58,16 @@ drops front who node dropped = record (asks who (commands.Local node)) {
   nodes = at node (answering front who (turns.Drop (ids_of dropped)) (replies.Dropped (length dropped)) ∷ []);
 }
 
--- a collection begins, and is shown these commits and no marker
-abbrev pub collects : ℕ → By → List Commit → Work
-collects front who shown = record (asks who commands.Collect) {
-  door = lists who the_office (codes "c/") (map record_pair shown) ∷ lists who the_office (codes "r/") [] ∷ [];
+-- a collection begins, and is shown these records and markers
+abbrev pub collects_on : ℕ → By → List Pair → List Pair → Work
+collects_on front who records markers = record (asks who commands.Collect) {
+  door = lists who the_office (codes "c/") records ∷ lists who the_office (codes "r/") markers ∷ [];
   office = says front who desk.Collecting ∷ [];
 }
+
+-- the same where it is shown the records of these commits, which the first incarnation of node 1 wrote, and no marker
+abbrev pub collects : ℕ → By → List Commit → Work
+collects front who shown = collects_on front who (map record_pair shown) []
 
 -- in it a node gives a commit up
 abbrev pub gives_up : ℕ → By → ℕ → ℕ → TxnId → Work

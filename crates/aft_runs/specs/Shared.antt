@@ -9,7 +9,7 @@ use Rattle.aft_histories.specs.Entries.{u, x, y}
 use Rattle.aft_runs.specs.Entries.{finds, turn, answering}
 use Rattle.aft_runs.specs.Lines.{opening, opens, boots, attempt, caller_of, begins, puts, commits, doubts, settles, only_answers}
 use Rattle.aft_runs.specs.Reads.{x_hi}
-use Rattle.aft_runs.specs.Words.{Writes, write, writes, hi, a, commit_of, version_pair}
+use Rattle.aft_runs.specs.Words.{Writes, write, writes, having_read, hi, a, commit_of, version_pair}
 use Rattle.aft_runs.specs.Works.{Work, Run, run, ordered, whole, step, by, at, nodes, nothing, asks}
 
 -- ---- the first client's get and commit, in two parts each
@@ -25,9 +25,9 @@ ends_get place = record nothing {
   nodes = at 1 (answering (place + 1) (by 1 7) (turns.Value (attempt 1 1 2) x x_hi.id place true) (replies.Value x_hi.id hi) ∷ []);
 }
 
--- what they write: a value of y, above what they have read
+-- what they write: a value of y, above what they have read, which its record names
 abbrev pub y_a : Writes
-y_a = writes 1001 2 (write y a ∷ [])
+y_a = having_read (x_hi.id ∷ []) (writes 1001 2 (write y a ∷ []))
 
 -- the commit is fixed
 abbrev pub begins_commit : Work

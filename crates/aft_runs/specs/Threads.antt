@@ -1,7 +1,7 @@
 -- A run with threads: its background lines stand between those of a client; and that run where what a background line does is left open.
 use Rattle.std.specs.Prelude.{ℕ, List, [], ◌∷◌, ◌++◌, codes}
 use Rattle.aft_records.specs.declared.stored.Commit.{Commit}
-use Rattle.aft_model.specs.Asked.{Settings}
+use Rattle.aft_lines.specs.Asked.{Settings}
 use Rattle.aft_model.specs.Membership.{the_office}
 use Rattle.aft_model.specs.declared.node.NodeAct.TheVariants as turns
 use Rattle.aft_model.specs.declared.node.NodeEntry.{NodeEntry}

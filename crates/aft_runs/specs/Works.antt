@@ -1,7 +1,7 @@
 -- A run as the list of what is done in it: each piece of work is a line of the script with all that it adds to the histories.
 use Rattle.std.specs.Prelude.{ℕ, ◌==◌, ◌+◌, true, false, List, [], ◌∷◌, map, Some, None, if◌then◌else◌}
 use Rattle.std.specs.List.{flat_map, range_with_len}
-use Rattle.aft_model.specs.Asked.{Asked, Ran, Settings}
+use Rattle.aft_lines.specs.Asked.{Asked, Ran, Settings}
 use Rattle.aft_model.specs.declared.caller.By.{By}
 use Rattle.aft_model.specs.declared.door.DoorEntry.{DoorEntry}
 use Rattle.aft_model.specs.declared.mail.MailEntry.{MailEntry}
@@ -48,10 +48,15 @@ asks who command = record nothing { lines = record { number = who.line; client =
 abbrev pub nodes : ℕ → Settings
 nodes count = record { nodes = count; cache = 256; mailbox = 256; rounds = 4 }
 
--- the script of the works, whose lines run whole one after the other, at the time 1000
+-- the script of the works, whose lines run whole one after the other, at the time 1000, and behind which no session asks anything
 abbrev pub asked : Settings → List Work → Asked
-asked settings works =
-    record { script = record { lines = flat_map (λ work. work.lines) works }; order = Some (record { words = [] }); settings = settings; clock = Some 1000 }
+asked settings works = record {
+  script = record { lines = flat_map (λ work. work.lines) works };
+  order = Some (record { words = [] });
+  asks = [];
+  settings = settings;
+  clock = Some 1000;
+}
 
 -- the histories that they make
 abbrev pub ran : Settings → List Work → Ran
@@ -84,3 +89,11 @@ ordered words told = record told { asked = record told.asked { order = Some (rec
 -- a run with threads, which has no order
 abbrev pub threaded : Run → Run
 threaded told = record told { asked = record told.asked { order = None } }
+
+-- a run without boxes: those of a refused opening aren't there
+abbrev pub without_boxes : Run → Run
+without_boxes told = record told { ran = record told.ran { mail = [] } }
+
+-- a run behind whose script a session asks these lines
+abbrev pub asking : List Line → Run → Run
+asking lines told = record told { asked = record told.asked { asks = lines } }

@@ -1,9 +1,9 @@
 //! Runs in which a transaction is aborted, and others, which are refused.
 
 ghost use Rattle.std.specs.Prelude.{[], ◌∷◌};
-ghost use Rattle.aft_model.specs.Headline.{Headline};
+ghost use Rattle.aft_lines.specs.Headline.{Headline};
 ghost use Rattle.aft_model.specs.Honest.{Honest};
-ghost use Rattle.aft_model.specs.LegalTrace.{LegalTrace};
+ghost use Rattle.aft_lines.specs.LegalTrace.{LegalTrace};
 ghost use Rattle.aft_model.specs.declared.reply.Reply.TheVariants as replies;
 ghost use Rattle.aft_runs.specs.Aborts.{leaves_and, aborted, aborts_doubt, finds_it, finds_nothing, is_aborted, is_stored, x_is_absent, x_is_there, doubt_aborted, doubt_committed, doubt_kept, doubt_let_go, doubt_stored};
 ghost use Rattle.aft_runs.specs.LeftOut.{AnswersAll};

@@ -1,8 +1,8 @@
 //! Runs of two nodes, with announcements, rounds of the office, and collections.
 
-ghost use Rattle.aft_model.specs.Headline.{Headline};
+ghost use Rattle.aft_lines.specs.Headline.{Headline};
 ghost use Rattle.aft_model.specs.Honest.{Honest};
-ghost use Rattle.aft_model.specs.LegalTrace.{LegalTrace};
+ghost use Rattle.aft_lines.specs.LegalTrace.{LegalTrace};
 ghost use Rattle.aft_runs.specs.Pinned.{pinned_version};
 ghost use Rattle.aft_runs.specs.Told.{announced, never_announced};
 

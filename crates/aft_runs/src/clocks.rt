@@ -1,9 +1,9 @@
 //! Runs in which the clock stands at an edge, and others, which are refused.
 
 ghost use Rattle.std.specs.Prelude.{[], ◌∷◌, Some, None, ◌^◌};
-ghost use Rattle.aft_model.specs.Headline.{Headline};
+ghost use Rattle.aft_lines.specs.Headline.{Headline};
 ghost use Rattle.aft_model.specs.Honest.{Honest};
-ghost use Rattle.aft_model.specs.LegalTrace.{LegalTrace};
+ghost use Rattle.aft_lines.specs.LegalTrace.{LegalTrace};
 ghost use Rattle.aft_model.specs.declared.reply.Reply.TheVariants as replies;
 ghost use Rattle.aft_runs.specs.Clocks.{commits_where, last_time, earliest, latest, untold, past_end};
 ghost use Rattle.aft_runs.specs.LeftOut.{AnswersAll};

@@ -15,13 +15,13 @@ pub fn drops_refused()
     ensures other_dropped { RefusedBy (Nodes ∷ []) (drops_behind reader_leaves the_newer) }
 {}
 
-/// A node gives up what it doesn't hold, and the door is told that and no more.
+/// Each node is asked, gives up what it doesn't hold, and the door is told that and no more.
 #[tactic(auto, unfolding(aft_histories::proofs::Stored::stored_forms))]
 pub fn give_ups_refused()
     ensures held_in_doubt { RefusedBy [] (collects_in_doubt (finds (held_by 1 1))) }
     ensures given_up_in_doubt { RefusedBy (Nodes ∷ []) (collects_in_doubt gives_up_doubt) }
     ensures given_up { RefusedBy [] (collects_dropped (gives_up_with (node_gives_up ∷ []))) }
-    ensures not_asked { RefusedBy (Door ∷ []) (collects_dropped retires_unasked) }
+    ensures not_asked { RefusedBy (Door ∷ Courses ∷ Causes ∷ []) (collects_dropped retires_unasked) }
     ensures at_the_node_alone { RefusedBy (Courses ∷ Causes ∷ []) (collects_dropped gives_up_unsaid) }
     ensures at_the_door_alone { RefusedBy (Courses ∷ GiveUps ∷ Causes ∷ []) (collects_dropped (gives_up_with [])) }
 {}
@@ -33,5 +33,5 @@ pub fn verdicts_refused()
     ensures held_by_next { RefusedBy (Causes ∷ []) (collects_in_doubt (finds (held_by 1 2))) }
     ensures said_retired { RefusedBy (Causes ∷ []) (collects_in_doubt (finds is_retired)) }
     ensures said_nothing { RefusedBy (Causes ∷ []) (collects_in_doubt (finds [])) }
-    ensures held_by_nobody { RefusedBy (Causes ∷ []) (collects_dropped says_held) }
+    ensures held_by_nobody { RefusedBy (Courses ∷ Causes ∷ []) (collects_dropped says_held) }
 {}

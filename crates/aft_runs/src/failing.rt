@@ -1,8 +1,8 @@
 //! Runs in which calls of the store fail, or a node crashes.
 
-ghost use Rattle.aft_model.specs.Headline.{Headline};
+ghost use Rattle.aft_lines.specs.Headline.{Headline};
 ghost use Rattle.aft_model.specs.Honest.{Honest};
-ghost use Rattle.aft_model.specs.LegalTrace.{LegalTrace};
+ghost use Rattle.aft_lines.specs.LegalTrace.{LegalTrace};
 ghost use Rattle.aft_runs.specs.Faults.{doubt_settled, started_again};
 
 /// A commit in doubt that is settled, and a node that starts again.

@@ -1,9 +1,9 @@
 //! Runs of several incarnations, and others, which are refused.
 
 ghost use Rattle.std.specs.Prelude.{[], ◌∷◌};
-ghost use Rattle.aft_model.specs.Headline.{Headline};
+ghost use Rattle.aft_lines.specs.Headline.{Headline};
 ghost use Rattle.aft_model.specs.Honest.{Honest};
-ghost use Rattle.aft_model.specs.LegalTrace.{LegalTrace};
+ghost use Rattle.aft_lines.specs.LegalTrace.{LegalTrace};
 ghost use Rattle.aft_model.specs.declared.node.NodeAct.TheVariants as turns;
 ghost use Rattle.aft_model.specs.declared.reply.Reply.TheVariants as replies;
 ghost use Rattle.aft_runs.specs.Incarnations.{puts_for_older, incarnations, crashes_start, crashed_at_boot, scans};

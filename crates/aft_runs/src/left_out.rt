@@ -4,7 +4,7 @@ ghost use Rattle.std.specs.Prelude.{[], ◌∷◌};
 ghost use Rattle.aft_model.specs.declared.reply.Reply.TheVariants as reply;
 ghost use Rattle.aft_runs.specs.Faults.{doubt_settled, started_again};
 ghost use Rattle.aft_runs.specs.LeftOut.{AnswersAll, LeavesOut, doubted};
-ghost use Rattle.aft_runs.specs.Parts.{RefusedBy};
+ghost use Rattle.aft_runs.specs.Parts.{RefusedBy, Causes};
 ghost use Rattle.aft_runs.specs.Pinned.{pinned_version};
 ghost use Rattle.aft_runs.specs.Reads.{ordinary_use, absent_repeats, absent_blocks, older_version_fits};
 ghost use Rattle.aft_runs.specs.Told.{announced, never_announced};
@@ -33,10 +33,10 @@ pub fn collections_answer_all()
     ensures pinned { AnswersAll pinned_version }
 {}
 
-/// A commit whose record and its settling both failed is in doubt: a store fault alone would leave that out, though it has its cause.
+/// A commit whose record and its settling both failed is in doubt: a store fault would leave that out, and has no cause there.
 #[tactic(auto, unfolding(aft_histories::proofs::Stored::stored_forms))]
 pub fn doubts_left_out()
     ensures in_doubt { AnswersAll (doubted reply.InDoubt) }
-    ensures caused { RefusedBy [] (doubted reply.StoreFault) }
+    ensures no_cause { RefusedBy (Causes ∷ []) (doubted reply.StoreFault) }
     ensures left_out { LeavesOut reply.InDoubt (doubted reply.StoreFault) }
 {}

@@ -1,9 +1,9 @@
 //! A run in which a node that is down loses its mail, and others, which are refused.
 
 ghost use Rattle.std.specs.Prelude.{[], ◌∷◌};
-ghost use Rattle.aft_model.specs.Headline.{Headline};
+ghost use Rattle.aft_lines.specs.Headline.{Headline};
 ghost use Rattle.aft_model.specs.Honest.{Honest};
-ghost use Rattle.aft_model.specs.LegalTrace.{LegalTrace};
+ghost use Rattle.aft_lines.specs.LegalTrace.{LegalTrace};
 ghost use Rattle.aft_runs.specs.LeftOut.{AnswersAll};
 ghost use Rattle.aft_runs.specs.LostMail.{delivers_down, takes_it, lost_mail};
 ghost use Rattle.aft_runs.specs.Parts.{RefusedBy, Posts};

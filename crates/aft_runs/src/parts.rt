@@ -1,9 +1,9 @@
 //! The parts by which runs are refused are those of the definitions, all of them.
 
 ghost use Rattle.std.specs.Prelude.{[]};
-ghost use Rattle.aft_model.specs.Headline.{Headline, KeepsPromise};
+ghost use Rattle.aft_lines.specs.Headline.{Headline, KeepsPromise};
 ghost use Rattle.aft_model.specs.Honest.{Honest};
-ghost use Rattle.aft_model.specs.LegalTrace.{LegalTrace};
+ghost use Rattle.aft_lines.specs.LegalTrace.{LegalTrace};
 ghost use Rattle.aft_runs.specs.Parts.{RefusedBy};
 ghost use Rattle.aft_runs.specs.Promises.{Breaks};
 ghost use Rattle.aft_runs.specs.Works.{Run};

@@ -1,8 +1,8 @@
 //! Runs of transactions that write and read at one node.
 
-ghost use Rattle.aft_model.specs.Headline.{Headline};
+ghost use Rattle.aft_lines.specs.Headline.{Headline};
 ghost use Rattle.aft_model.specs.Honest.{Honest};
-ghost use Rattle.aft_model.specs.LegalTrace.{LegalTrace};
+ghost use Rattle.aft_lines.specs.LegalTrace.{LegalTrace};
 ghost use Rattle.aft_runs.specs.Reads.{ordinary_use, absent_repeats, absent_blocks, older_version_fits};
 
 /// Gets of a key that was written, and of one that was absent and stays so.

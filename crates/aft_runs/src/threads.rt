@@ -1,9 +1,9 @@
 //! A run with threads, and others, which are refused.
 
 ghost use Rattle.std.specs.Prelude.{[], ◌∷◌};
-ghost use Rattle.aft_model.specs.Headline.{Headline};
+ghost use Rattle.aft_lines.specs.Headline.{Headline};
 ghost use Rattle.aft_model.specs.Honest.{Honest};
-ghost use Rattle.aft_model.specs.LegalTrace.{LegalTrace};
+ghost use Rattle.aft_lines.specs.LegalTrace.{LegalTrace};
 ghost use Rattle.aft_runs.specs.LeftOut.{AnswersAll};
 ghost use Rattle.aft_runs.specs.Parts.{RefusedBy, Nodes, Opening, Courses, Answers};
 ghost use Rattle.aft_runs.specs.Threads.{runs_beside, with_threads, says_announced, drops_nothing};

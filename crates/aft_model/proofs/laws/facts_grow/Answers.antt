@@ -1,4 +1,4 @@
-use Rattle.aft_model.proofs.Growth.{committed_grows, marked_grows, superseded_grows}
+use Rattle.aft_model.proofs.Growth.{committed_grows, marked_grows, superseded_grows, forgotten_grows}
 use Rattle.aft_model.proofs.laws.facts_grow.Goals as goal
 
 pub returns-clause-committed : goal.returns-clause-committed
@@ -9,3 +9,6 @@ returns-clause-marked c = marked_grows
 
 pub returns-clause-superseded : goal.returns-clause-superseded
 returns-clause-superseded c = superseded_grows
+
+pub returns-clause-forgotten : goal.returns-clause-forgotten
+returns-clause-forgotten c = forgotten_grows

@@ -1,0 +1,53 @@
+//! Runs in which versions that nobody has are deleted, and others, which are refused.
+
+ghost use Rattle.std.specs.Prelude.{[], ◌∷◌};
+ghost use Rattle.aft_lines.specs.Headline.{Headline};
+ghost use Rattle.aft_model.specs.Honest.{Honest};
+ghost use Rattle.aft_lines.specs.LegalTrace.{LegalTrace};
+ghost use Rattle.aft_model.specs.declared.reply.Reply.TheVariants as replies;
+ghost use Rattle.aft_histories.specs.Entries.{record_of};
+ghost use Rattle.aft_runs.specs.LeftOut.{AnswersAll};
+ghost use Rattle.aft_runs.specs.OrphanRounds.{by_older_claim, counts, crashes_and, deleted_orphan, deletes_orphan, fails_look, keeps_claim, kept_once_recorded, looks_and, marker_first, page_fails_and, settles_and, shows_damage, though_recorded, without_claim};
+ghost use Rattle.aft_runs.specs.Parts.{RefusedBy, Door, Courses, Causes};
+
+/// A version is passed over while its transaction is there, kept once its record is found, and deleted where its node crashed before.
+#[tactic(auto, unfolding(aft_histories::proofs::Stored::stored_forms))]
+pub fn orphans_deleted()
+    ensures kept_legal { LegalTrace kept_once_recorded.asked kept_once_recorded.ran }
+    ensures kept_honest { Honest kept_once_recorded.ran.trace.door }
+    ensures kept_promise { Headline kept_once_recorded.ran.trace }
+    ensures kept_answers_all { AnswersAll kept_once_recorded }
+    ensures deleted_legal { LegalTrace deleted_orphan.asked deleted_orphan.ran }
+    ensures deleted_honest { Honest deleted_orphan.ran.trace.door }
+    ensures deleted_promise { Headline deleted_orphan.ran.trace }
+    ensures deleted_answers_all { AnswersAll deleted_orphan }
+{}
+
+/// A version is deleted under a claim of its UUID, behind which neither its record nor then its marker was found.
+#[tactic(auto, unfolding(aft_histories::proofs::Stored::stored_forms))]
+pub fn deletes_refused()
+    ensures not_claimed { RefusedBy (Door ∷ Courses ∷ Causes ∷ []) (crashes_and without_claim (counts 1 0 0 0)) }
+    ensures older_claim { RefusedBy (Door ∷ Courses ∷ Causes ∷ []) (crashes_and by_older_claim (counts 1 0 0 0)) }
+    ensures marker_first { RefusedBy (Door ∷ Courses ∷ Causes ∷ []) (crashes_and marker_first (counts 1 0 0 0)) }
+    ensures recorded { RefusedBy (Door ∷ Courses ∷ Causes ∷ []) (settles_and though_recorded (counts 1 0 0 0)) }
+{}
+
+/// What is counted was done, and a version is passed over only where somebody held its UUID.
+#[tactic(auto, unfolding(aft_histories::proofs::Stored::stored_forms))]
+pub fn counts_refused()
+    ensures one_more { RefusedBy (Causes ∷ []) (crashes_and deletes_orphan (counts 2 0 0 0)) }
+    ensures as_kept { RefusedBy (Causes ∷ []) (crashes_and deletes_orphan (counts 0 1 0 0)) }
+    ensures held_by_nobody { RefusedBy (Causes ∷ []) (crashes_and [] (counts 0 0 1 0)) }
+{}
+
+/// A failed call for a version is counted, damage ends the round, and the claim is let go behind both.
+#[tactic(auto, unfolding(aft_histories::proofs::Stored::stored_forms))]
+pub fn faulty_rounds_refused()
+    ensures fault { RefusedBy [] (crashes_and (looks_and fails_look) (counts 0 0 0 1)) }
+    ensures fault_as_held { RefusedBy (Causes ∷ []) (crashes_and (looks_and fails_look) (counts 0 0 1 0)) }
+    ensures not_let_go { RefusedBy (Courses ∷ Causes ∷ []) (crashes_and keeps_claim (counts 0 0 0 1)) }
+    ensures damage { RefusedBy [] (crashes_and (looks_and shows_damage) (replies.Damaged (record_of 1))) }
+    ensures damage_counted { RefusedBy (Courses ∷ Causes ∷ []) (crashes_and (looks_and shows_damage) (counts 0 0 0 1)) }
+    ensures no_page { RefusedBy [] (page_fails_and replies.StoreFault) }
+    ensures no_page_counted { RefusedBy (Courses ∷ Causes ∷ []) (page_fails_and (counts 0 0 0 1)) }
+{}
