@@ -15,7 +15,7 @@ use Rattle.law_turns.proofs.Sorting.{alike, at_moment, sorted_ascends, sorted_st
 
 -- ---- filters
 
-filter_swap : {A : Type 0} (p q : A → Bool) (xs : List A) → filter p (filter q xs) ≡ filter q (filter p xs)
+pub filter_swap : {A : Type 0} (p q : A → Bool) (xs : List A) → filter p (filter q xs) ≡ filter q (filter p xs)
 filter_swap p q [] = refl
 filter_swap {A} p q (x ∷ xs) = cases (filter_swap p q xs) (p x) refl (q x) refl
   where
@@ -26,18 +26,18 @@ filter_swap {A} p q (x ∷ xs) = cases (filter_swap p q xs) (p x) refl (q x) ref
     cases rest false px true qx = ap (λ t. if t then x ∷ filter p (filter q xs) else filter p (filter q xs)) px ∙ rest
     cases rest false px false qx = rest
 
-filter_all : {A : Type 0} (p : A → Bool) (xs : List A) → ((x : A) → In x xs → p x ≡ true) → filter p xs ≡ xs
+pub filter_all : {A : Type 0} (p : A → Bool) (xs : List A) → ((x : A) → In x xs → p x ≡ true) → filter p xs ≡ xs
 filter_all p [] all = refl
 filter_all {A} p (x ∷ xs) all = ap (λ t. if t then x ∷ filter p xs else filter p xs) (all x (inl refl)) ∙ ap (λ (l : List A). x ∷ l) (filter_all p xs (λ y among. all y (inr among)))
 
-filter_none : {A : Type 0} (p : A → Bool) (xs : List A) → ((x : A) → In x xs → p x ≡ false) → filter p xs ≡ []
+pub filter_none : {A : Type 0} (p : A → Bool) (xs : List A) → ((x : A) → In x xs → p x ≡ false) → filter p xs ≡ []
 filter_none p [] none = refl
 filter_none p (x ∷ xs) none = ap (λ t. if t then x ∷ filter p xs else filter p xs) (none x (inl refl)) ∙ filter_none p xs (λ y among. none y (inr among))
 
-all_filter : {A : Type 0} (p q : A → Bool) (xs : List A) → IsTrue (list_all p xs) → IsTrue (list_all p (filter q xs))
+pub all_filter : {A : Type 0} (p q : A → Bool) (xs : List A) → IsTrue (list_all p xs) → IsTrue (list_all p (filter q xs))
 all_filter p q xs all = all_from p (filter q xs) (λ x among. all_at p x xs (in_filter q x xs among).0 all)
 
-all_append : {A : Type 0} (p : A → Bool) (xs ys : List A) → IsTrue (list_all p xs) → IsTrue (list_all p ys) → IsTrue (list_all p (xs ++ ys))
+pub all_append : {A : Type 0} (p : A → Bool) (xs ys : List A) → IsTrue (list_all p xs) → IsTrue (list_all p ys) → IsTrue (list_all p (xs ++ ys))
 all_append p [] ys all all' = all'
 all_append p (x ∷ xs) ys all all' = let parts = and_parts (p x) (list_all p xs) all in and_from _ _ parts.0 (all_append p xs ys parts.1 all')
 
