@@ -1,0 +1,47 @@
+//! What no contract says: that each call succeeds where memory is ample.
+
+use crate::data_cache::DataCache;
+use crate::spot::Spot;
+use aft_id::{Bytes, TxnId};
+use aft_records::Key;
+use std::test::Fail;
+
+/// With one place the second value takes the first one's; used again, the second stays.
+#[test]
+fn keeps_as_many_as_fit(rt: HostRuntime) -> Result<(), Fail> {
+    let alloc = rt.alloc();
+    let x = Spot {
+        key: Key::new(alloc, b"x")?,
+        id: TxnId::zero(),
+    };
+    let mut cache = DataCache::new(alloc, 1)?;
+    assert!(rt; cache.look(&x).is_none());
+    cache.keep(
+        Key::new(alloc, b"x")?,
+        TxnId::zero(),
+        Bytes::from_vec(b"a".to_vec(alloc)?),
+    )?;
+    assert!(rt;
+        cache
+            .look(&x)
+            .is_some_and(|value| value.as_slice() == b"a".as_slice())
+    );
+    cache.keep(
+        Key::new(alloc, b"x")?,
+        TxnId::zero(),
+        Bytes::from_vec(b"b".to_vec(alloc)?),
+    )?;
+    assert!(rt;
+        cache
+            .look(&x)
+            .is_some_and(|value| value.as_slice() == b"b".as_slice())
+    );
+    cache.keep(
+        Key::new(alloc, b"y")?,
+        TxnId::zero(),
+        Bytes::from_vec(b"c".to_vec(alloc)?),
+    )?;
+    assert!(rt; cache.look(&x).is_none());
+    cache.clear();
+    Ok(())
+}

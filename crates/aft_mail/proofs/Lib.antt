@@ -1,0 +1,4 @@
+pub mod Histories
+pub mod Heard
+pub mod Boxes
+pub mod Desks

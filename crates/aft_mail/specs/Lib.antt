@@ -1,0 +1,2 @@
+pub mod BoxState
+pub mod Desk

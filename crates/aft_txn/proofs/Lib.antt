@@ -1,0 +1,4 @@
+pub mod Buffers
+pub mod Times
+pub mod Pinned
+pub mod Tables

@@ -1,0 +1,19 @@
+use Rattle.std.proofs.Common.{◌≡◌, ◌∙◌, ap, refl, sym, Some, None}
+use Rattle.std.proofs.Common.{map}
+use Rattle.aft_model.specs.Attempts.{buffered}
+use Rattle.aft_txn.specs.Buffer.{as_write}
+use Rattle.aft_txn.specs.Fields.{as_row}
+use Rattle.aft_txn.specs.Rows.{Table, row_at}
+use Rattle.aft_txn.proofs.Tables.{row-none, row-some}
+use Rattle.aft_txn.proofs.table.TxnTable.own.Goals as goal
+
+pub returns-in_err-get : goal.returns-in_err-get
+returns-in_err-get c =
+    let none : row_at c.args.number c.args.self.now.rows ≡ None = ap (λ (t : Table). row_at c.args.number t.rows) (sym c.self.view_is) ∙ row-none c.args.number c.self.inside.attempts.entries (sym c.in_err-get.ensures.value) in
+    rw (c.from_residual.ensures, none) refl
+
+pub returns : goal.returns
+returns c =
+    let txn = c.in_ok-get.field-0.now in
+    let some : row_at c.args.number c.args.self.now.rows ≡ Some (as_row c.args.number txn) = ap (λ (t : Table). row_at c.args.number t.rows) (sym c.self.view_is) ∙ row-some c.args.number c.self.inside.attempts.entries txn (sym c.in_ok-get.ensures.value) in
+    rw some (c.value_of.ensures ∙ ap (λ items. buffered c.args.key.now (map as_write items)) c.as_slice.ensures.value)
