@@ -1,0 +1,9 @@
+pub mod Places
+pub mod Order
+pub mod Under
+pub mod KeysOf
+pub mod Entries
+pub mod Counts
+pub mod Learning
+pub mod Dropping
+pub mod Asked

@@ -1,0 +1,3 @@
+pub mod KnownCommits
+pub mod Acts
+pub mod Index
