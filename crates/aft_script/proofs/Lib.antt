@@ -1,0 +1,5 @@
+pub mod Generating
+pub mod Numbers
+pub mod Runnables
+pub mod Splits
+pub mod Uuids

@@ -1,0 +1,10 @@
+pub mod Forms
+pub mod Generator
+pub mod Gives
+pub mod Limits
+pub mod Making
+pub mod Orders
+pub mod Runnable
+pub mod Scripts
+pub mod Values
+pub mod Words
