@@ -1,0 +1,12 @@
+pub mod Snocs
+pub mod Found
+pub mod Kept
+pub mod Changed
+pub mod Added
+pub mod Rooms
+pub mod Opens
+pub mod CallRules
+pub mod Went
+pub mod Puts
+pub mod Holdouts
+pub mod Timely

@@ -1,0 +1,32 @@
+use Rattle.std.proofs.Common.{List, ap, ◌∙◌, subst}
+use Rattle.std.proofs.lemmas.Bool.{and_from}
+use Rattle.aft_model.specs.Readings.{marker_name}
+use Rattle.aft_records.specs.Rows.{marker_row}
+use Rattle.aft_records.specs.declared.stored.Marker.TheVariants.{Full}
+use Rattle.aft_door.proofs.Holdouts.{none_holds_out}
+use Rattle.aft_model.specs.declared.door.DoorEntry.{DoorEntry}
+use Rattle.aft_door.specs.Calls.{DoorView, told_done}
+use Rattle.aft_door.specs.Entries.{who_calls}
+use Rattle.aft_door.specs.Refusals.{as_result, if_fenced, if_held_out, or_then}
+use Rattle.aft_model.specs.Bytes.{HasBytes}
+use Rattle.aft_door.proofs.Timely.{superseded_timely}
+use Rattle.aft_door.proofs.Puts.{asks_put, behind, both_none, holdout_if, is_office, marker_may, passed}
+use Rattle.aft_door.proofs.door.Door.put_marker.Goals as goal
+
+pub put-requires-clause-may : goal.put-requires-clause-may
+put-requires-clause-may g c =
+    let h = ap (λ (v : DoorView). v.history) c.self.view_is in
+    let up = passed c.in_ok-test_up.field-0 (if_fenced c.args.who c.args.self.now.history) (c.in_ok-test_up.ensures ∙ ap (λ (x : List DoorEntry). as_result (if_fenced c.args.who x)) h) in
+    let given = passed c.in_ok-test_given.field-0 (if_held_out c.args.commit.now.id c.args.self.now.history) (c.in_ok-test_given.ensures ∙ ap (λ (x : List DoorEntry). as_result (if_held_out c.args.commit.now.id x)) h) in
+    marker_may c.args.self.now.history (who_calls c.args.who) c.in_ok-name.name c.in_ok-bytes.bytes (Full c.args.commit.now) c.in_ok-name.ensures.ok c.in_ok-bytes.ensures.ok (c.commit_fits.ensures, superseded_timely c.args.self.now.history (subst HasBytes h c.law.ensures.bytes) c.args.commit.now c.requires.superseded)
+    (and_from _ _ (and_from _ _ (is_office (who_calls c.args.who) c.requires.office) c.requires.superseded) (none_holds_out c.args.commit.now.id c.args.self.now.history (holdout_if c.args.commit.now.id c.args.self.now.history given)))
+
+pub returns-clause-refused : goal.returns-clause-refused
+returns-clause-refused g c =
+    let h = ap (λ (v : DoorView). v.history) c.self.view_is in
+    let up = passed c.in_ok-test_up.field-0 (if_fenced c.args.who c.args.self.now.history) (c.in_ok-test_up.ensures ∙ ap (λ (x : List DoorEntry). as_result (if_fenced c.args.who x)) h) in
+    let given = passed c.in_ok-test_given.field-0 (if_held_out c.args.commit.now.id c.args.self.now.history) (c.in_ok-test_given.ensures ∙ ap (λ (x : List DoorEntry). as_result (if_held_out c.args.commit.now.id x)) h) in
+    behind (or_then (if_fenced c.args.who c.args.self.now.history) (if_held_out c.args.commit.now.id c.args.self.now.history)) c.put.result (both_none (if_fenced c.args.who c.args.self.now.history) (if_held_out c.args.commit.now.id c.args.self.now.history) up given) c.put.ensures.refused
+
+pub returns-clause-asks : goal.returns-clause-asks
+returns-clause-asks g c = asks_put c.args.self.now _ c.args.who c.in_ok-name.name (marker_name c.args.commit.now.id.uuid) c.in_ok-bytes.bytes (marker_row (Full c.args.commit.now)) (told_done c.put.result) c.in_ok-name.ensures.ok c.in_ok-bytes.ensures.ok c.put.ensures.asks
