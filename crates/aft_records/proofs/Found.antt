@@ -1,12 +1,11 @@
 -- What is read is spelled so, and keeps the limits.
-use Rattle.std.proofs.Common.{◌≡◌, ℕ, ◌≤◌, Bool, true, false, cond, List, [], ◌∷◌, length, Option, Some, None, Result, Ok, Err, refl, sym, ap, subst, ◌∙◌, inl, inr, ◌⊎◌, arith}
-use Rattle.std.specs.Prelude.{IfOk, map, All}
+use Rattle.std.proofs.Common.{◌≡◌, ℕ, Bool, true, false, cond, List, [], ◌∷◌, length, Option, Some, None, Result, Ok, Err, refl, sym, ap, subst, ◌∙◌, inl, inr, ◌⊎◌, arith}
+use Rattle.std.specs.Prelude.{IfOk, All}
 use Rattle.std.specs.List.{list_all}
 use Rattle.std.proofs.lemmas.Bool.{leb-true}
 use Rattle.std.proofs.lemmas.List.{length-map}
-use Rattle.std.proofs.lemmas.List.Elements.{All-from_get_or, All-get_or}
 use Rattle.aft_fields.specs.declared.table.Cell.{Cell}
-use Rattle.aft_fields.specs.declared.table.Cell.TheVariants.{U64, U128, Text, Bytes, Texts}
+use Rattle.aft_fields.specs.declared.table.Cell.TheVariants.{U64, Text, Bytes, Texts}
 use Rattle.aft_fields.specs.declared.table.Kind.TheVariants as kinds
 use Rattle.aft_fields.specs.Kinds.{are_of}
 use Rattle.aft_fields.specs.Order.{ascend}
@@ -17,7 +16,6 @@ use Rattle.aft_id.specs.TxnId.{IsUuid}
 use Rattle.aft_records.specs.declared.fault.RecordFault.{RecordFault}
 use Rattle.aft_records.specs.declared.fault.RecordFault.TheVariants.{BadTime, BadKeys, BadKey, BadOrigin, BadReads, LongValue}
 use Rattle.aft_records.specs.declared.stored.Commit.{Commit}
-use Rattle.aft_records.specs.declared.stored.Origin.{Origin}
 use Rattle.aft_records.specs.declared.stored.Record.{Record}
 use Rattle.aft_records.specs.declared.stored.Version.{Version}
 use Rattle.aft_records.specs.declared.stored.Marker.{Marker}
@@ -29,7 +27,7 @@ use Rattle.aft_records.specs.ReadIds.{ids_of}
 use Rattle.aft_records.specs.Reading.{cells_of, is_tagged, number_in, text_in, bytes_in, texts_in, id_in, checked_time, checked_keys, checked_set, checked_key, checked_value, checked_origin, found_ids, checked_reads, checked_commit, commit_in, checked_record, record_in, checked_version, version_in, done_in, first_commit_of, record_of, second_commit_of, commit_of, version_of, full_of, done_of, marker_of}
 use Rattle.aft_records.specs.Records.{IsSpelledRecordOf}
 use Rattle.aft_records.specs.Rows.{version_tag, commit_tag, record_tag, full_tag, done_tag, version_kinds, commit_kinds, record_kinds, done_kinds, id_cells, commit_cells, commit_row, record_cells, record_row, version_cells, version_row, marker_row}
-use Rattle.aft_records.specs.Stored.{IsWritableId, IsWritableCommit, IsCommit, IsOrigin, IsRecord, IsVersion, IsMarker}
+use Rattle.aft_records.specs.Stored.{IsWritableId, IsCommit, IsRecord, IsVersion, IsMarker}
 use Rattle.aft_records.proofs.Steps.{bind_ok, test_ok, ok_is}
 use Rattle.aft_records.proofs.LimitTests.{key_limits, set_limits}
 use Rattle.aft_records.proofs.KeyChecks.{all_keys}

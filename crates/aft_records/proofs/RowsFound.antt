@@ -1,6 +1,5 @@
 -- What the cells of a row tell, one after the other.
-use Rattle.std.proofs.Common.{◌≡◌, ℕ, ◌^◌, ◌<◌, Bool, true, ◌&&◌, List, [], ◌∷◌, length, Result, Ok, Err, refl, sym, ap, subst, ◌∙◌, arith}
-use Rattle.std.specs.Prelude.{IsTrue}
+use Rattle.std.proofs.Common.{◌≡◌, ℕ, ◌^◌, ◌<◌, true, ◌&&◌, List, [], ◌∷◌, Result, Ok, Err, refl, sym, ap, subst, ◌∙◌}
 use Rattle.std.specs.Int.{w128, to_be_bytes}
 use Rattle.std.proofs.lemmas.Bool.{and_parts, false≢true, ltb-true}
 use Rattle.std.proofs.lemmas.List.Elements.{All-from_get_or}
@@ -9,7 +8,7 @@ use Rattle.aft_fields.specs.declared.table.Cell.{Cell}
 use Rattle.aft_fields.specs.declared.table.Cell.TheVariants.{U64, U128, Text, Bytes, Texts}
 use Rattle.aft_fields.specs.declared.table.Kind.{Kind}
 use Rattle.aft_fields.specs.declared.table.Kind.TheVariants as kinds
-use Rattle.aft_fields.specs.Kinds.{are_texts, has_spelling, is_kind, are_of}
+use Rattle.aft_fields.specs.Kinds.{has_spelling, is_kind, are_of}
 use Rattle.aft_fields.specs.Order.{ascend}
 use Rattle.aft_fields.specs.Reading.{row_of}
 use Rattle.aft_fields.specs.Spelling.{row_bytes}

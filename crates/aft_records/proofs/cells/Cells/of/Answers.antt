@@ -1,6 +1,5 @@
-use Rattle.std.proofs.Common.{◌≡◌, ◌∙◌, List}
+use Rattle.std.proofs.Common.{◌≡◌, ◌∙◌}
 use Rattle.std.specs.Vec.Iter.{into_iter_items}
-use Rattle.aft_fields.specs.declared.table.Cell.{Cell}
 use Rattle.aft_fields.proofs.Rows.{each_spelled}
 use Rattle.aft_records.proofs.cells.Cells.of.Goals as goal
 
