@@ -26,51 +26,118 @@ fn commit(alloc: Global, id: TxnId, names: &[&str]) -> Result<Commit, Fail> {
     Ok(Commit { id, keys })
 }
 
-/// What is learned and dropped one after the other, and how each step is answered.
-fn counts_newest_keys<M: CommitSet + Drop>(rt: &impl Abort, alloc: Global) -> Result<(), Fail> {
-    let (first, second, third) = (id_of(1, 1), id_of(2, 2), id_of(3, 3));
-    let x = Key::new(alloc, b"x")?;
-    let y = Key::new(alloc, b"y")?;
-    let mut set = M::new(alloc);
-    assert_eq!(rt; set.latest(&x), None);
-    assert_eq!(rt;
-        set.learn(&commit(alloc, first, &["x", "y"])?)?,
-        Learnt::Taken
-    );
-    assert_eq!(rt; set.learn(&commit(alloc, second, &["x"])?)?, Learnt::Taken);
-    assert!(rt; !set.superseded(first));
-    assert_eq!(rt; set.learn(&commit(alloc, third, &["y"])?)?, Learnt::Taken);
-    assert!(rt; set.superseded(first) && !set.superseded(second) && !set.superseded(third));
-    assert_eq!(rt; set.versions(&x)?.as_slice(), [first, second].as_slice());
-    assert_eq!(rt; set.ids()?.as_slice(), [first, second, third].as_slice());
-    assert_eq!(rt; set.keys_of(first).map(|keys| keys.list().len()), Some(2));
-    assert_eq!(rt; set.latest(&y), Some(third));
-    assert_eq!(rt; set.latest_below(&y, third), Some(first));
-    assert_eq!(rt; set.latest_below(&y, first), None);
-    if set.superseded(first) {
-        set.remove(first);
-    }
-    assert_eq!(rt; set.versions(&x)?.as_slice(), [second].as_slice());
-    assert!(rt; set.keys_of(first).is_none() && !set.superseded(first));
-    let again = commit(alloc, first, &["x", "y"])?;
-    assert!(rt; set.covered(&again));
-    assert_eq!(rt; set.learn(&again)?, Learnt::Superseded);
-    assert_eq!(rt; set.learn(&commit(alloc, third, &["y"])?)?, Learnt::Known);
+/// Learns a commit of keys that ascend.
+fn learns<M: CommitSet>(
+    alloc: Global,
+    set: &mut M,
+    id: TxnId,
+    names: &[&str],
+) -> Result<Learnt, Fail> {
+    let commit = commit(alloc, id, names)?;
+    Ok(set.learn(&commit)?)
+}
+
+/// Whether the commit of keys that ascend is covered.
+fn covers<M: CommitSet>(alloc: Global, set: &M, id: TxnId, names: &[&str]) -> Result<bool, Fail> {
+    let commit = commit(alloc, id, names)?;
+    Ok(set.covered(&commit))
+}
+
+/// Looks at the versions of a key, and at the newest of them.
+fn has_versions<M: CommitSet>(
+    rt: &impl Abort,
+    alloc: Global,
+    set: &M,
+    name: &str,
+    want: &[TxnId],
+) -> Result<(), Fail> {
+    let key = Key::new(alloc, name.as_bytes())?;
+    assert_eq!(rt; set.latest(&key), want.last().copied());
+    let versions = set.versions(&key)?;
+    assert_eq!(rt; versions.as_slice(), want);
     Ok(())
 }
 
-/// The same by acts, with a drop of what isn't superseded.
-fn replays_acts<M: CommitSet + Drop>(rt: &impl Abort, alloc: Global) -> Result<(), Fail> {
+/// The newest version of a key below an id.
+fn below<M: CommitSet>(
+    alloc: Global,
+    set: &M,
+    name: &str,
+    id: TxnId,
+) -> Result<Option<TxnId>, Fail> {
+    let key = Key::new(alloc, name.as_bytes())?;
+    Ok(set.latest_below(&key, id))
+}
+
+/// Looks at the ids of all that is known.
+fn has_ids<M: CommitSet>(rt: &impl Abort, set: &M, want: &[TxnId]) -> Result<(), Fail> {
+    let ids = set.ids()?;
+    assert_eq!(rt; ids.as_slice(), want);
+    Ok(())
+}
+
+/// The second commit writes one key of the first anew, and the third the other.
+fn counts<M: CommitSet>(rt: &impl Abort, alloc: Global, set: &mut M) -> Result<(), Fail> {
     let (first, second, third) = (id_of(1, 1), id_of(2, 2), id_of(3, 3));
-    let acts = List::from_vec(vec![in alloc;
-        MetaAct::Learn(commit(alloc, second, &["x"])?),
-        MetaAct::Learn(commit(alloc, first, &["x", "y"])?),
-        MetaAct::Drop(first),
-        MetaAct::Learn(commit(alloc, third, &["y"])?),
-        MetaAct::Drop(first),
-        MetaAct::Learn(commit(alloc, first, &["x", "y"])?),
-        MetaAct::Learn(commit(alloc, third, &["y"])?),
-    ]?);
+    has_versions(rt, alloc, set, "x", &[])?;
+    assert_eq!(rt; learns(alloc, set, first, &["x", "y"])?, Learnt::Taken);
+    assert_eq!(rt; learns(alloc, set, second, &["x"])?, Learnt::Taken);
+    assert!(rt; !set.superseded(first));
+    assert_eq!(rt; learns(alloc, set, third, &["y"])?, Learnt::Taken);
+    assert!(rt; set.superseded(first) && !set.superseded(second) && !set.superseded(third));
+    Ok(())
+}
+
+/// What the three commits are found as.
+fn finds<M: CommitSet>(rt: &impl Abort, alloc: Global, set: &M) -> Result<(), Fail> {
+    let (first, second, third) = (id_of(1, 1), id_of(2, 2), id_of(3, 3));
+    has_versions(rt, alloc, set, "x", &[first, second])?;
+    has_versions(rt, alloc, set, "y", &[first, third])?;
+    has_ids(rt, set, &[first, second, third])?;
+    assert_eq!(rt; set.keys_of(first).map(|keys| keys.list().len()), Some(2));
+    assert_eq!(rt; below(alloc, set, "y", third)?, Some(first));
+    assert_eq!(rt; below(alloc, set, "y", first)?, None);
+    Ok(())
+}
+
+/// The superseded one is dropped, and isn't taken again.
+fn drops<M: CommitSet>(rt: &impl Abort, alloc: Global, set: &mut M) -> Result<(), Fail> {
+    let (first, second, third) = (id_of(1, 1), id_of(2, 2), id_of(3, 3));
+    if set.superseded(first) {
+        set.remove(first);
+    }
+    has_versions(rt, alloc, set, "x", &[second])?;
+    assert!(rt; set.keys_of(first).is_none() && !set.superseded(first));
+    assert!(rt; covers(alloc, set, first, &["x", "y"])?);
+    assert_eq!(rt; learns(alloc, set, first, &["x", "y"])?, Learnt::Superseded);
+    assert_eq!(rt; learns(alloc, set, third, &["y"])?, Learnt::Known);
+    Ok(())
+}
+
+/// The worked example of counts.
+fn counts_newest_keys<M: CommitSet + Drop>(rt: &impl Abort, alloc: Global) -> Result<(), Fail> {
+    let mut set = M::new(alloc);
+    counts(rt, alloc, &mut set)?;
+    finds(rt, alloc, &set)?;
+    drops(rt, alloc, &mut set)
+}
+
+/// The commits of the worked example, and a drop of one that isn't superseded yet.
+fn acts(alloc: Global) -> Result<List<MetaAct>, Fail> {
+    let (first, second, third) = (id_of(1, 1), id_of(2, 2), id_of(3, 3));
+    let mut acts = Vec::new(alloc);
+    acts.push(MetaAct::Learn(commit(alloc, second, &["x"])?))?;
+    acts.push(MetaAct::Learn(commit(alloc, first, &["x", "y"])?))?;
+    acts.push(MetaAct::Drop(first))?;
+    acts.push(MetaAct::Learn(commit(alloc, third, &["y"])?))?;
+    acts.push(MetaAct::Drop(first))?;
+    acts.push(MetaAct::Learn(commit(alloc, first, &["x", "y"])?))?;
+    acts.push(MetaAct::Learn(commit(alloc, third, &["y"])?))?;
+    Ok(List::from_vec(acts))
+}
+
+/// The same by acts.
+fn replays_acts<M: CommitSet + Drop>(rt: &impl Abort, alloc: Global) -> Result<(), Fail> {
     let want = [
         Learnt::Taken,
         Learnt::Taken,
@@ -78,10 +145,11 @@ fn replays_acts<M: CommitSet + Drop>(rt: &impl Abort, alloc: Global) -> Result<(
         Learnt::Superseded,
         Learnt::Known,
     ];
+    let acts = acts(alloc)?;
     let mut set = M::new(alloc);
-    assert_eq!(rt; replay(alloc, &mut set, &acts)?.as_slice(), want.as_slice());
-    assert_eq!(rt; set.ids()?.as_slice(), [second, third].as_slice());
-    Ok(())
+    let answers = replay(alloc, &mut set, &acts)?;
+    assert_eq!(rt; answers.as_slice(), want.as_slice());
+    has_ids(rt, &set, &[id_of(2, 2), id_of(3, 3)])
 }
 
 #[test]
