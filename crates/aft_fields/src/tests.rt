@@ -20,6 +20,18 @@ const COMMITS: Layout<3> = Layout {
     kinds: [Kind::U64, Kind::U128, Kind::Texts],
 };
 
+/// A text, any bytes and texts.
+const TEXTS: Layout<3> = Layout {
+    tag: *b"TX1",
+    kinds: [Kind::Text, Kind::Bytes, Kind::Texts],
+};
+
+/// One number.
+const NUMBERS: Layout<1> = Layout {
+    tag: *b"NR1",
+    kinds: [Kind::U64],
+};
+
 #[test]
 fn version(rt: HostRuntime) -> Result<(), Fail> {
     let row = VERSIONS.read(rt.alloc(), VERSION)?;
@@ -38,6 +50,45 @@ fn commit(rt: HostRuntime) -> Result<(), Fail> {
     let row = COMMITS.read(rt.alloc(), COMMIT)?;
     let written = COMMITS.write(rt.alloc(), &row)?;
     assert!(rt; written.as_slice() == COMMIT);
+    Ok(())
+}
+
+/// Where the parts of the commit begin: tag, time, UUID, number of texts, and the length and body of each.
+const PARTS: [u64; 8] = [0, 3, 11, 27, 31, 35, 36, 40];
+
+#[test]
+fn beginnings(rt: HostRuntime) {
+    for n in 0..COMMIT.len() {
+        let at = PARTS
+            .iter()
+            .copied()
+            .filter(|part| *part <= n as u64)
+            .max()
+            .unwrap_or(0);
+        let fault = COMMITS.read(rt.alloc(), &COMMIT[..n]).err();
+        assert!(rt; fault == Some(FieldFault::Short { at }), "{n}");
+    }
+}
+
+#[test]
+fn empty_cells(rt: HostRuntime) -> Result<(), Fail> {
+    let bytes = b"TX1\0\0\0\0\0\0\0\0\0\0\0\0".as_slice();
+    let row = TEXTS.read(rt.alloc(), bytes)?;
+    assert!(rt; matches!(row.cell(0), Cell::Text(text) if text.as_slice().is_empty()));
+    assert!(rt; matches!(row.cell(1), Cell::Bytes(bytes) if bytes.as_slice().is_empty()));
+    assert!(rt; matches!(row.cell(2), Cell::Texts(texts) if texts.as_slice().is_empty()));
+    let written = TEXTS.write(rt.alloc(), &row)?;
+    assert!(rt; written.as_slice() == bytes);
+    Ok(())
+}
+
+#[test]
+fn one_field(rt: HostRuntime) -> Result<(), Fail> {
+    let bytes = b"NR1\0\0\0\0\0\0\x03\xe8".as_slice();
+    let row = NUMBERS.read(rt.alloc(), bytes)?;
+    assert!(rt; matches!(row.cell(0), Cell::U64(1000)));
+    let written = NUMBERS.write(rt.alloc(), &row)?;
+    assert!(rt; written.as_slice() == bytes);
     Ok(())
 }
 
