@@ -13,7 +13,7 @@ use Rattle.aft_chron.specs.Standing.{within, times, IsEach}
 use Rattle.aft_chron.specs.Rule.{is_busy, has, IsOutside, Stands, Fits, AtHome, Lent, Kept, parts_of, counted_of, busy, numbered, made_at, spent_view}
 use Rattle.aft_chron.specs.Steps.{keeping, given, united}
 use Rattle.aft_chron.proofs.Sums.{total_set, total_same, total_two, total_end, total_sole, times_append, within_here}
-use Rattle.aft_chron.proofs.Prefixes.{longer_begins, begins_both, longer_least, begins_length, begins_whole}
+use Rattle.aft_chron.proofs.Prefixes.{longer_begins, begins_both, both_begin, longer_least, begins_length, begins_whole}
 use Rattle.aft_chron.proofs.Seats.{each_set, each_end, home_stays}
 
 module _ {V E : Type 0} (history : V → List E) (count : V → ℕ) (opening : List E) (whole : ℕ) where
@@ -52,11 +52,12 @@ module _ {V E : Type 0} (history : V → List E) (count : V → ℕ) (opening : 
         places = λ p. omega (arith, total_end (made_at p) vs o, total_same (made_at p) s.views id v w at refl, k.places p);
         tallied = omega (arith, total_end counted_of vs o, total_same counted_of s.views id v w at refl, k.tallied);
         each = each_end (Fits opening whole k.log k.turn k.tally) vs o
-            (record { told = f.told; seen = f.seen; begun = f.begun; below = λ p _. refl; idle = λ z. (refl, refl); counted = omega arith; stands = tt })
+            (record { told = f.told; seen = f.seen; met = f.met; begun = f.begun; below = λ p _. refl; idle = λ z. (refl, refl); counted = omega arith; stands = tt })
             (each_set (Fits opening whole k.log k.turn k.tally) s.views id w
             (record {
               told = f.told;
               seen = f.seen;
+              met = f.met;
               begun = f.begun;
               below = f.below;
               idle = λ z. (⊎_elim (λ (e : v.made ≡ []). e) (λ (less : n < v.parts). absurd (omega arith)) keeps, out);
@@ -89,11 +90,12 @@ module _ {V E : Type 0} (history : V → List E) (count : V → ℕ) (opening : 
         places = λ p. omega (arith, total_set (made_at p) vs other u o at', total_set (made_at p) s.views id v w at, k.places p, times_append p v.made u.made);
         tallied = omega (arith, total_set counted_of vs other u o at', total_set counted_of s.views id v w at, k.tallied);
         each = each_set (Fits opening whole k.log k.turn k.tally) vs other o
-            (record { told = λ z. absurd (omega arith); seen = (k.log, refl); begun = λ z. absurd (omega arith); below = λ p _. refl; idle = λ z. (refl, refl); counted = omega arith; stands = tt })
+            (record { told = λ z. absurd (omega arith); seen = (k.log, refl); met = (([], refl), ([], refl)); begun = λ z. absurd (omega arith); below = λ p _. refl; idle = λ z. (refl, refl); counted = omega arith; stands = tt })
             (λ j d _ e. each_set (Fits opening whole k.log k.turn k.tally) s.views id w
             (record {
               told = f.told;
               seen = longer_begins v.seen u.seen k.log f.seen g.seen;
+              met = both_begin v.seen u.seen k.log f.seen g.seen;
               begun = λ _. begins_both opening v.seen u.seen (f.begun live) (g.begun live');
               below = λ p le. omega (arith, times_append p v.made u.made, f.below p (omega (arith, least.0)), g.below p (omega (arith, least.1)));
               idle = λ z. let mine : v.made ≡ [] = (f.idle (omega arith)).0 in let theirs : u.made ≡ [] = (g.idle (omega arith)).0 in (ap (λ l. l ++ u.made) mine ∙ theirs, out);

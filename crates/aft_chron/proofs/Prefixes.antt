@@ -38,6 +38,21 @@ module _ {E : Type 0} where
       chosen true = q
       chosen false = p
 
+  -- of two beginnings of one history the shorter begins the longer
+  pub begins_between : (xs ys log : List E) → IsPrefix xs log → IsPrefix ys log → length xs ≤ length ys → IsPrefix xs ys
+  begins_between [] ys log p q le = (ys, refl)
+  begins_between (x ∷ xs) [] log p q le = absurd (omega arith)
+  begins_between (x ∷ xs) (y ∷ ys) [] p q le = absurd (cc (p.1))
+  begins_between (x ∷ xs) (y ∷ ys) (z ∷ zs) p q le = let rest : IsPrefix xs ys = begins_between xs ys zs (p.0, cc (p.1)) (q.0, cc (q.1)) (omega arith) in (rest.0, cc (p.1, q.1, rest.1))
+
+  -- two beginnings of one history both begin the longer of them
+  pub both_begin : (xs ys log : List E) → IsPrefix xs log → IsPrefix ys log → IsPrefix xs (longer xs ys) × IsPrefix ys (longer xs ys)
+  both_begin xs ys log p q = chosen (nat_lt (length xs) (length ys)) refl
+    where
+      chosen : (b : Bool) → nat_lt (length xs) (length ys) ≡ b → IsPrefix xs (pick b xs ys) × IsPrefix ys (pick b xs ys)
+      chosen true e = (begins_between xs ys log p q (grind (arith, nat_tests)), begins_itself ys)
+      chosen false e = (begins_itself xs, begins_between ys xs log q p (grind (arith, nat_tests)))
+
   pub longer_least : (xs ys : List E) → (length xs ≤ length (longer xs ys)) × (length ys ≤ length (longer xs ys))
   longer_least xs ys = chosen (nat_lt (length xs) (length ys)) refl
     where

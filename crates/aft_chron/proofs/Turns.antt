@@ -12,7 +12,7 @@ use Rattle.aft_chron.specs.declared.view.View.{View}
 use Rattle.aft_chron.specs.declared.view.Stage.TheVariants.{Out, Waits, Called, Inside}
 use Rattle.aft_chron.specs.Standing.{once, within}
 use Rattle.aft_chron.specs.Rule.{is_busy, has, total, IsOutside, Stands, Fits, AtHome, Lent, Kept, parts_of, counted_of, busy, numbered, made_at}
-use Rattle.aft_chron.specs.Steps.{number_of, at_stage, knowing, having_made, drawn, looked, known, recorded, passed_on}
+use Rattle.aft_chron.specs.Steps.{number_of, at_stage, knowing, having_made, drawn, looked, known, recorded, passed_on, told}
 use Rattle.aft_chron.specs.Places.{IsLonger}
 use Rattle.aft_chron.proofs.Sums.{total_set, total_same, total_gap, times_end, within_end, within_start}
 use Rattle.aft_chron.proofs.Prefixes.{begins_itself, begins_longer, begins_length}
@@ -63,7 +63,7 @@ module _ {V E : Type 0} (history : V → List E) (count : V → ℕ) (opening : 
           places = λ p. total_same (made_at p) s.views id v w at refl ∙ k.places p;
           tallied = total_same counted_of s.views id v w at refl ∙ k.tallied;
           each = each_set (Fits opening whole k.log k.turn k.tally) s.views id w
-              (record { told = f.told; seen = f.seen; begun = f.begun; below = f.below; idle = λ z. absurd (omega arith); counted = f.counted; stands = tt }) (λ j d _ e. k.each j d e);
+              (record { told = f.told; seen = f.seen; met = f.met; begun = f.begun; below = f.below; idle = λ z. absurd (omega arith); counted = f.counted; stands = tt }) (λ j d _ e. k.each j d e);
           home = home_stays history count opening whole k.log k.turn k.tally s.homes s.views id v w at (subst IsOutside (sym out) tt) tt k.home;
         },
         refl,
@@ -99,12 +99,18 @@ module _ {V E : Type 0} (history : V → List E) (count : V → ℕ) (opening : 
           places = λ p. total_same (made_at p) s.views id v w at refl ∙ k.places p;
           tallied = total_same counted_of s.views id v w at refl ∙ k.tallied;
           each = each_set (Fits opening whole k.log k.turn k.tally) s.views id w
-              (record { told = f.told; seen = f.seen; begun = f.begun; below = f.below; idle = λ z. absurd (cc (waits, (f.idle z).1)); counted = f.counted; stands = refl }) (λ j d _ h. k.each j d h);
+              (record { told = f.told; seen = f.seen; met = f.met; begun = f.begun; below = f.below; idle = λ z. absurd (cc (waits, (f.idle z).1)); counted = f.counted; stands = refl }) (λ j d _ h. k.each j d h);
           home = home_stays history count opening whole k.log k.turn k.tally s.homes s.views id v w at (subst IsOutside (sym waits) tt) tt k.home;
         },
         ((λ _ _. refl), (λ ne. absurd (ne (e ∙ sym n_is))), λ far. absurd (near far)),
       )))
       (λ (ne : k.turn ≢ number). (v, keeps, tt, same_seat s k id v at, ((λ e _. absurd (ne (e ∙ n_is))), (λ _. refl), λ _. refl))))
+
+  -- a seat is told that what met in it begins what it has seen
+  pub tells : (slots id : ℕ) (m : M) → Allows Rule slots id m 0 (λ n. n) (told history count m)
+  tells slots id m s k len at fit =
+      let v : View E = m.0 in let f = k.each id v at in
+      subst (Goes s id m 0 (λ n. n) (told history count m)) (sym k.words) (v, keeps, tt, same_seat s k id v at, (refl, f.met.0, f.met.1))
 
   -- a seat whose number is up sees the whole history, and takes the slot
   pub knows : (slots id : ℕ) (m : M) (number : ℕ) → m.0.stage ≡ Called number → 0 < m.0.whole → Allows Rule slots id m 0 (λ n. n) (known history count m)
@@ -140,6 +146,7 @@ module _ {V E : Type 0} (history : V → List E) (count : V → ℕ) (opening : 
               (record {
                 told = f.told;
                 seen = subst (λ l. IsPrefix l k.log) (sym h.2) (begins_itself k.log);
+                met = (begins_itself (history x), begins_itself (history x));
                 begun = λ _. subst (IsPrefix opening) (sym h.2) k.begun;
                 below = λ p le. f.below p (omega (arith, begins_length v.seen k.log f.seen, ap length h.2));
                 idle = λ z. absurd (cc (called, (f.idle z).1));
@@ -211,6 +218,7 @@ module _ {V E : Type 0} (history : V → List E) (count : V → ℕ) (opening : 
               (record {
                 told = f.told;
                 seen = begins_itself (history x);
+                met = (begins_itself (history x), begins_itself (history x));
                 begun = λ _. further opening k.begun;
                 below = λ p le. omega (arith, times_end p v.made (length v.seen), f.below p (omega arith), once_else (length v.seen) p (λ same. omega arith));
                 idle = λ z. absurd (cc (inside, (f.idle z).1));
@@ -220,6 +228,7 @@ module _ {V E : Type 0} (history : V → List E) (count : V → ℕ) (opening : 
               (λ j d ne h. let g = k.each j d h in record {
                 told = g.told;
                 seen = further d.seen g.seen;
+                met = g.met;
                 begun = g.begun;
                 below = g.below;
                 idle = g.idle;
@@ -263,10 +272,11 @@ module _ {V E : Type 0} (history : V → List E) (count : V → ℕ) (opening : 
           places = λ p. total_same (made_at p) s.views id v w at refl ∙ k.places p;
           tallied = total_same counted_of s.views id v w at refl ∙ k.tallied;
           each = each_set (Fits opening whole k.log (number + 1) k.tally) s.views id w
-              (record { told = f.told; seen = f.seen; begun = f.begun; below = f.below; idle = λ z. ((f.idle z).0, refl); counted = f.counted; stands = tt })
+              (record { told = f.told; seen = f.seen; met = f.met; begun = f.begun; below = f.below; idle = λ z. ((f.idle z).0, refl); counted = f.counted; stands = tt })
               (λ j d ne h. let g = k.each j d h in record {
                 told = g.told;
                 seen = g.seen;
+                met = g.met;
                 begun = g.begun;
                 below = g.below;
                 idle = g.idle;

@@ -36,11 +36,11 @@ IsOutside _ = Unit {0}
 module _ {E : Type 0} where
   -- the view of the first seat
   abbrev pub first_view : List E → ℕ → View E
-  first_view opening whole = record { whole = whole; opening = opening; parts = whole; counted = 0; seen = opening; made = []; stage = Out; count = 0 }
+  first_view opening whole = record { whole = whole; opening = opening; parts = whole; counted = 0; seen = opening; made = []; stage = Out; count = 0; met = (opening, opening) }
 
   -- the view that a meet leaves behind
   abbrev pub spent_view : View E
-  spent_view = record { whole = 0; opening = []; parts = 0; counted = 0; seen = []; made = []; stage = Out; count = 0 }
+  spent_view = record { whole = 0; opening = []; parts = 0; counted = 0; seen = []; made = []; stage = Out; count = 0; met = ([], []) }
 
   abbrev pub parts_of : View E → ℕ
   parts_of v = v.parts
@@ -67,6 +67,7 @@ module _ {E : Type 0} where
   pub record Fits (opening : List E) (whole : ℕ) (log : List E) (turn tally : ℕ) (v : View E) : Type 0 where
     pub told : 0 < v.whole → (v.whole ≡ whole) × (v.opening ≡ opening)
     pub seen : IsPrefix v.seen log
+    pub met : IsPrefix v.met.0 v.seen × IsPrefix v.met.1 v.seen
     pub begun : 0 < v.whole → IsPrefix opening v.seen
     pub below : (p : ℕ) → length v.seen ≤ p → times p v.made ≡ 0
     pub idle : v.parts ≡ 0 → (v.made ≡ []) × (v.stage ≡ Out)

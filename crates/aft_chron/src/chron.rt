@@ -125,12 +125,13 @@ impl<V: Storied> Chron<V> {
         Pass::of_seat(other, seen)
     }
 
-    /// The first pass has then seen the longer of what the two had seen, and has the parts of both and what
-    /// either made. Takes no memory.
+    /// The first pass has then seen the longer of what the two had seen, which begins with what either had seen,
+    /// and has the parts of both and what either made. Takes no memory.
     pub fn meet(&self, pass: &mut Pass<V::Entry>, other: Pass<V::Entry>)
         requires pass { IsFree pass.old self.now }
         requires other { IsFree other self.now }
-        ensures { pass.new ≡ united_passes pass.old other }
+        ensures united { pass.new ≡ united_passes pass.old other }
+        ensures begins { IsPrefix pass.old.seen pass.new.seen × IsPrefix other.seen pass.new.seen }
     {
         let (mut seat, seen) = replace(pass, Pass::absent()).into_seat();
         let (met, met_seen) = other.into_seat();

@@ -1,5 +1,5 @@
 //! What each step at the table tells its seat.
-ghost use Rattle.aft_chron.specs.Steps.{drawn, looked, known, recorded, passed_on, keeping, given, united};
+ghost use Rattle.aft_chron.specs.Steps.{drawn, looked, known, recorded, passed_on, told, keeping, given, united};
 ghost use Rattle.aft_chron.specs.Rule.{spent_view};
 
 use crate::storied::Storied;
@@ -35,6 +35,12 @@ pub(crate) struct PassOn;
 
 impl<V: Storied> Play<Option<V>, View<V::Entry>> for PassOn {
     ghost then = { λ _. passed_on V.history V.count };
+}
+
+pub(crate) struct Tell;
+
+impl<V: Storied> Play<Option<V>, View<V::Entry>> for Tell {
+    ghost then = { λ _. told V.history V.count };
 }
 
 /// How many parts a split gives away. Each call picks it.

@@ -1,5 +1,5 @@
 //! The lock round a list of numbers, on one thread and on several.
-ghost use Rattle.std.specs.Prelude.{◌≡◌, ◌+◌, ◌*◌, ◌^◌, ◌<◌, ◌≤◌, ◌⊎◌, [], ◌∷◌, ◌++◌, length, true, false, IfOk, OnOk, OnErr};
+ghost use Rattle.std.specs.Prelude.{◌≡◌, ℕ, ◌+◌, ◌*◌, ◌^◌, ◌<◌, ◌≤◌, ◌⊎◌, [], ◌∷◌, ◌++◌, length, true, false, Contains, IfOk, OnOk, OnErr};
 ghost use Rattle.aft_chron.specs.Standing.{IsFree, left, once};
 ghost use Rattle.aft_chron.specs.Tried.{IsSamePlace, IsSameHolder};
 ghost use Rattle.std.specs.Thread.{IsSync};
@@ -7,6 +7,7 @@ ghost use Rattle.std.specs.Thread.{IsSync};
 use crate::{Chron, Memory, Pass, Storied};
 use std::alloc::{AllocError, Global};
 use std::marker::Model;
+use std::process::Abort;
 use std::sync::Wait;
 use std::test::Fail;
 use std::thread;
@@ -36,7 +37,8 @@ impl Numbers {
     }
 
     fn add(&mut self, number: u64) -> Result<(), AllocError>
-        ensures { (self.new ≡ self.old) ⊎ (self.new ≡ self.old ++ number ∷ []) }
+        ensures ok { OnOk result (self.new ≡ self.old ++ number ∷ []) }
+        ensures err { OnErr result (self.new ≡ self.old) }
     {
         self.items.push(number)?;
         Ok(())
@@ -60,6 +62,7 @@ impl Storied for Numbers {
 }
 
 /// Takes a turn that adds this number.
+#[tactic(auto, using(crate::proofs::Tried::contains_added))]
 fn add<R: Wait>(
     rt: &R,
     lock: &Chron<Numbers>,
@@ -68,6 +71,7 @@ fn add<R: Wait>(
 ) -> Result<(), AllocError>
     requires pass { IsFree pass.old lock.now × (0 < pass.old.parts) }
     ensures pass { IsSamePlace pass.old pass.new }
+    ensures added { OnOk result (Contains pass.new.seen number) }
 {
     let mut turn = lock.enter(rt, pass);
     let added = turn.value.add(number);
@@ -86,20 +90,42 @@ fn lock_round_none(alloc: Global, parts: u32) -> Result<(Chron<Numbers>, Pass<u6
     }
 }
 
-#[test]
-fn two_passes_on_one_thread(rt: HostRuntime) -> Result<(), Fail> {
-    let (lock, mut first) = lock_round_none(rt.alloc(), 2)?;
-    add(&rt, &lock, &mut first, 5)?;
+/// What the lock keeps, once its two passes have met.
+#[tactic(auto, using(crate::proofs::Tried::contains_begun))]
+fn closed(lock: Chron<Numbers>, mut first: Pass<u64>, second: Pass<u64>) -> Numbers
+    requires first { IsFree first lock }
+    requires second { IsFree second lock }
+    requires all { first.parts + second.parts ≡ first.whole }
+    // What either had seen is in it.
+    ensures first { (n : ℕ) → Contains first.seen n → Contains result n }
+    ensures second { (n : ℕ) → Contains second.seen n → Contains result n }
+{
+    lock.meet(&mut first, second);
+    lock.close(first)
+}
+
+/// One pass adds 5, and one that is split off then finds it and adds 6.
+fn five_and_six<R: Wait + Abort>(
+    rt: &R,
+    lock: Chron<Numbers>,
+    mut first: Pass<u64>,
+) -> Result<Numbers, AllocError>
+    requires pass { IsFree first lock × (first.parts ≡ 2) × (first.whole ≡ 2) × (first.counted ≡ 0) }
+    ensures both { IfOk result (λ numbers. Contains numbers 5 × Contains numbers 6) }
+{
+    add(rt, &lock, &mut first, 5)?;
     let mut second = lock.split(&mut first, 1);
     assert_eq!(rt; second.seen(), 1);
-    let mut turn = lock.enter(&rt, &mut second);
-    assert_eq!(rt; turn.value.items.as_slice(), [5].as_slice());
-    let added = turn.value.add(6);
-    lock.leave(turn, &mut second);
-    added?;
-    lock.meet(&mut first, second);
-    assert_eq!(rt; first.seen(), 2);
-    assert_eq!(rt; lock.close(first).items.as_slice(), [5, 6].as_slice());
+    add(rt, &lock, &mut second, 6)?;
+    assert_eq!(rt; second.seen(), 2);
+    Ok(closed(lock, first, second))
+}
+
+#[test]
+fn two_passes_on_one_thread(rt: HostRuntime) -> Result<(), Fail> {
+    let (lock, first) = lock_round_none(rt.alloc(), 2)?;
+    let numbers = five_and_six(&rt, lock, first)?;
+    assert_eq!(rt; numbers.items.as_slice(), [5, 6].as_slice());
     Ok(())
 }
 
@@ -112,6 +138,7 @@ fn added<R: Wait>(
 ) -> (Pass<u64>, Result<(), AllocError>)
     requires pass { IsFree pass lock.now × (0 < pass.parts) }
     ensures pass { IsSamePlace pass result.0 }
+    ensures added { OnOk result.1 (Contains result.0.seen number) }
 {
     let done = add(rt, lock, &mut pass, number);
     (pass, done)
@@ -130,30 +157,43 @@ fn two_threads<R: Threads + Wait + Sync>(
     requires one { IsFree one lock.now × (0 < one.parts) }
     requires two { IsFree two lock.now × (0 < two.parts) }
     ensures one { IsSamePlace one result.0.0 }
+    ensures five { OnOk result.0.1 (Contains result.0.0.seen 5) }
     ensures two { IsSamePlace two result.1.0 }
+    ensures six { OnOk result.1.1 (Contains result.1.0.seen 6) }
 {
     thread::join(
         rt,
         move || -> (Pass<u64>, Result<(), AllocError>)
             requires { IsFree one lock.now × (0 < one.parts) }
-            ensures { IsSamePlace one result.0 }
+            ensures { IsSamePlace one result.0 × OnOk result.1 (Contains result.0.seen 5) }
         { added(rt, lock, one, 5) },
         move || -> (Pass<u64>, Result<(), AllocError>)
             requires { IsFree two lock.now × (0 < two.parts) }
-            ensures { IsSamePlace two result.0 }
+            ensures { IsSamePlace two result.0 × OnOk result.1 (Contains result.0.seen 6) }
         { added(rt, lock, two, 6) },
     )
 }
 
-#[test]
-fn two_passes_on_threads_of_their_own(rt: HostRuntime) -> Result<(), Fail> {
-    let (lock, mut first) = lock_round_none(rt.alloc(), 2)?;
+/// One pass adds 5, and one that is split off adds 6, each on a thread of its own.
+fn five_beside_six<R: Threads + Wait + Sync>(
+    rt: &R,
+    lock: Chron<Numbers>,
+    mut first: Pass<u64>,
+) -> Result<Numbers, AllocError>
+    requires pass { IsFree first lock × (first.parts ≡ 2) × (first.whole ≡ 2) × (first.counted ≡ 0) }
+    ensures both { IfOk result (λ numbers. Contains numbers 5 × Contains numbers 6) }
+{
     let second = lock.split(&mut first, 1);
-    let ((mut first, five), (second, six)) = two_threads(&rt, &lock, first, second);
+    let ((first, five), (second, six)) = two_threads(rt, &lock, first, second);
     five?;
     six?;
-    lock.meet(&mut first, second);
-    let numbers = lock.close(first);
+    Ok(closed(lock, first, second))
+}
+
+#[test]
+fn two_passes_on_threads_of_their_own(rt: HostRuntime) -> Result<(), Fail> {
+    let (lock, first) = lock_round_none(rt.alloc(), 2)?;
+    let numbers = five_beside_six(&rt, lock, first)?;
     let items = numbers.items.as_slice();
     assert!(rt; items == [5, 6].as_slice() || items == [6, 5].as_slice());
     Ok(())

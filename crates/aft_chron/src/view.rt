@@ -33,6 +33,8 @@ pub struct View<E> {
     pub stage: Stage,
     /// Within a turn, how many entries of the history count.
     pub count: u64,
+    /// Two histories that begin what it has seen: behind a meet, what the two had seen that met.
+    pub met: (LinkedList<E>, LinkedList<E>),
 }
 
 /// What the table is told when it is made.

@@ -6,7 +6,7 @@ ghost use Rattle.aft_chron.specs.Steps.{at_stage, knowing, having_made, keeping,
 ghost use Rattle.aft_chron.specs.Places.{IsLock, IsLonger};
 ghost use Rattle.aft_chron.specs.declared.view.Stage.TheVariants.{Out, Waits, Called, Inside};
 
-use crate::plays::{Cut, Draw, Know, Look, Part, PassOn, Record, Unite};
+use crate::plays::{Cut, Draw, Know, Look, Part, PassOn, Record, Tell, Unite};
 use crate::storied::Storied;
 use crate::view::{Law, Terms, View};
 use atomic_table::{Seat, Shared};
@@ -141,8 +141,10 @@ pub(super) fn meet<V: Storied>(core: &Core<V>, seat: &mut Place<V>, other: Place
     requires rest { (seat.old.me.0.stage ≡ Out) × (other.me.0.stage ≡ Out) × (0 < seat.old.me.0.whole) × (0 < other.me.0.whole) }
     ensures table { seat.new.table_id ≡ seat.old.table_id }
     ensures seat { seat.new.me ≡ (united seat.old.me.0 other.me.0, seat.old.me.1) }
+    ensures begins { IsPrefix seat.old.me.0.seen seat.new.me.0.seen × IsPrefix other.me.0.seen seat.new.me.0.seen }
 {
     core.join_seat::<Unite>(seat, other);
+    core.load::<Tell>(seat, LENGTH);
 }
 
 /// What is in a slot that has a value.
