@@ -27,13 +27,21 @@ wrote_key : (k key : List ℕ) (c : Commit) → In k c.keys → k ≡ key → Is
 wrote_key k key c among is = any_from (bytes_eq key) k c.keys among (subst (λ z. IsTrue (bytes_eq z k)) is (bytes_eq-refl k))
 
 -- a known commit that wrote a key did so at its id
-wrote_here : (key : List ℕ) (id : TxnId) (c : Commit) (known : List Commit) → In c known → id ≡ c.id → IsTrue (wrote key c) → IsTrue (wrote_at key id known)
+pub wrote_here : (key : List ℕ) (id : TxnId) (c : Commit) (known : List Commit) → In c known → id ≡ c.id → IsTrue (wrote key c) → IsTrue (wrote_at key id known)
 wrote_here key id c known among is wrote_it =
     any_from (λ (d : Commit). same_id id d.id && wrote key d) c known among (and_from _ _ (subst (λ (i : TxnId). IsTrue (same_id id i)) is (same_id-refl id)) wrote_it)
 
+-- what was written at an id is a version of the key
+pub version_there : (key : List ℕ) (id : TxnId) (known : List Commit) → IsTrue (wrote_at key id known) → In id (versions key known)
+version_there key id known written =
+    let found = any_found (λ (c : Commit). same_id id c.id && wrote key c) known written in
+    let parts = and_parts (same_id id found.0.id) (wrote key found.0) found.2 in
+    subst (λ (i : TxnId). In i (versions key known)) (sym (same_ids id found.0.id parts.0))
+    (map_in (λ (c : Commit). c.id) found.0 (filter (wrote key) known) (filter_in (wrote key) found.0 known found.1 parts.1))
+
 module _ (reads : List ReadPair) (known : List Commit) (atomic : Atomic reads known) where
   -- of a known commit that was read, no key was read below it
-  whole_at : (pair : ReadPair) (c : Commit) → In pair reads → In c known → pair.id ≡ c.id → IsTrue (is_read_whole reads c)
+  pub whole_at : (pair : ReadPair) (c : Commit) → In pair reads → In c known → pair.id ≡ c.id → IsTrue (is_read_whole reads c)
   whole_at pair c read there is =
       elim (or_cases (not (same_id pair.id c.id)) (is_read_whole reads c)
       (all_at (λ (d : Commit). not (same_id pair.id d.id) || is_read_whole reads d) c known there
@@ -101,11 +109,11 @@ module _ (reads : List ReadPair) (known : List Commit) (atomic : Atomic reads kn
   -- ---- a read commit's keys
 
   module _ (key : List ℕ) where
-    abbrev reads_written : List ReadPair
+    abbrev pub reads_written : List ReadPair
     reads_written = filter (λ (p : ReadPair). wrote_at key p.id known) reads
 
     -- the greatest read id whose commit wrote the key fits
-    greatest_fits : (pair : ReadPair) → In pair reads → IsTrue (wrote_at key pair.id known) → ((other : TxnId) → In other (map (λ (p : ReadPair). p.id) reads_written) → IsFalse (id_lt pair.id other)) → IsTrue (fits key pair.id reads known)
+    pub greatest_fits : (pair : ReadPair) → In pair reads → IsTrue (wrote_at key pair.id known) → ((other : TxnId) → In other (map (λ (p : ReadPair). p.id) reads_written) → IsFalse (id_lt pair.id other)) → IsTrue (fits key pair.id reads known)
     greatest_fits pair read written top =
         and_from _ _ (and_from _ _ written late) unblocked
       where
@@ -124,19 +132,11 @@ module _ (reads : List ReadPair) (known : List Commit) (atomic : Atomic reads kn
               | inr differs ↦ or_left _ _ (ap not differs)
             ])
 
-    -- what was written at an id is a version of the key
-    version_there : (id : TxnId) → IsTrue (wrote_at key id known) → In id (versions key known)
-    version_there id written =
-        let found = any_found (λ (c : Commit). same_id id c.id && wrote key c) known written in
-        let parts = and_parts (same_id id found.0.id) (wrote key found.0) found.2 in
-        subst (λ (i : TxnId). In i (versions key known)) (sym (same_ids id found.0.id parts.0))
-        (map_in (λ (c : Commit). c.id) found.0 (filter (wrote key) known) (filter_in (wrote key) found.0 known found.1 parts.1))
-
-    fitting_there : (id : TxnId) → IsTrue (fits key id reads known) → In id (fitting key reads known)
+    pub fitting_there : (id : TxnId) → IsTrue (fits key id reads known) → In id (fitting key reads known)
     fitting_there id fit =
         let parts = and_parts (wrote_at key id known && is_late_enough key id reads known) (is_not_blocked id reads known) fit in
         let written = and_parts (wrote_at key id known) (is_late_enough key id reads known) parts.0 in
-        filter_in (λ (i : TxnId). fits key i reads known) id (versions key known) (version_there id written.0) fit
+        filter_in (λ (i : TxnId). fits key i reads known) id (versions key known) (version_there key id known written.0) fit
 
     -- some version fits, where a read commit wrote the key
     some_fits : (pair : ReadPair) → In pair reads → IsTrue (wrote_at key pair.id known) → (id : TxnId) × In id (fitting key reads known)

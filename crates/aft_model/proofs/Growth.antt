@@ -11,7 +11,7 @@ use Rattle.aft_records.specs.Superseded.{is_superseded}
 use Rattle.aft_model.specs.Committed.{committed, marked}
 use Rattle.aft_records.specs.Commits.{is_among}
 use Rattle.aft_model.specs.Claims.{forgotten}
-use Rattle.aft_model.specs.DoorKnowledge.{knows_short, knows_orphan, found_unused, has_stored, knows_unused, knows_stored, knows_superseded, knows_marked, marked_then, shows_gone, knows_record_gone, has_deleted, knows_versions_gone}
+use Rattle.aft_model.specs.DoorKnowledge.{knows_short, knows_short_of, knows_orphan, found_unused, has_stored, knows_unused, knows_stored, knows_superseded, knows_marked, marked_then, shows_gone, knows_record_gone, has_deleted, knows_versions_gone}
 use Rattle.aft_model.specs.History.{followed}
 use Rattle.aft_model.specs.Membership.{Incarnation}
 
@@ -102,6 +102,9 @@ versions_gone_grows id = marked_and_grows _ (λ c. and_grows _ _ (marked_then_gr
 
 pub short_grows : (who : Incarnation) (uuid : List ℕ) → Grows (knows_short who uuid)
 short_grows who uuid = followed_grows _ _ (any_grows _)
+
+pub short_of_grows : (who : Incarnation) (id : TxnId) → Grows (knows_short_of who id)
+short_of_grows who id = followed_grows _ _ (any_grows _)
 
 -- what grows behind the first entries grows
 dropped_grows : {A : Type 0} (test : List A → Bool) → Grows test → (n : ℕ) → Grows (λ xs. test (drop n xs))

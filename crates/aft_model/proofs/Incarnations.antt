@@ -37,10 +37,10 @@ tracked_reads node capacity history legal =
     each_after_kept (may_follow_at node capacity) (λ (h : List NodeEntry). TracksReads (node_state h))
     (λ h entry sofar rule tracked. tracked_moved node capacity (newest h) (node_state h) entry (node_state (h ++ entry ∷ [])) (moved_by node capacity h entry rule) tracked) [] history legal tt
 
-known-at : (history : List NodeEntry) (s : Service) → node_state history ≡ IsServing s → known history ≡ known_in s
+pub known-at : (history : List NodeEntry) (s : Service) → node_state history ≡ IsServing s → known history ≡ known_in s
 known-at history s is = ap (λ (state : NodeState). known_of (service_in state)) is
 
-part-at : (history : List NodeEntry) (s : Service) → node_state history ≡ IsServing s → part history ≡ s.part
+pub part-at : (history : List NodeEntry) (s : Service) → node_state history ≡ IsServing s → part history ≡ s.part
 part-at history s is = ap (λ (state : NodeState). part_in (service_in state)) is
 
 -- ---- the laws

@@ -30,7 +30,7 @@ use Rattle.aft_model.proofs.Sights.{same_bytes}
 -- ---- lists of commits
 
 -- commits of one id are the same
-abbrev OneEach : List Commit → Type 0
+abbrev pub OneEach : List Commit → Type 0
 OneEach commits = (c d : Commit) → In c commits → In d commits → c.id ≡ d.id → c ≡ d
 
 -- a commit among some has its id there
@@ -72,13 +72,13 @@ known_ascends history = cases (service history)
     cases None = refl
     cases (Some s) = known_in_ascends s
 
-one_each_in : (s : Service) → OneEach (known_in s)
+pub one_each_in : (s : Service) → OneEach (known_in s)
 one_each_in s = one_each_from (known_in s) (known_in_ascends s)
 
 -- ---- a commit more
 
 -- a commit that joins the known ones, or doesn't
-with_cases : (P : List Commit → Type 0) (known : List Commit) (c : Commit) → P known → (IsFalse (has_id c.id known) → IsFalse (is_superseded c known) → P (with_id_order known c)) → P (with_commit known c)
+pub with_cases : (P : List Commit → Type 0) (known : List Commit) (c : Commit) → P known → (IsFalse (has_id c.id known) → IsFalse (is_superseded c known) → P (with_id_order known c)) → P (with_commit known c)
 with_cases P known c stays joins = cases (has_id c.id known || is_superseded c known) refl
   where
     cases : (t : Bool) → (has_id c.id known || is_superseded c known) ≡ t → P (if t then known else with_id_order known c)
@@ -94,7 +94,7 @@ placed_stays d (e ∷ known) c among = cases (placed_stays d known c) (id_lt c.i
     cases rest true = inr among
     cases rest false = elim among [ inl here ↦ inl here | inr later ↦ inr (rest later) ]
 
-placed_new : (d : Commit) (known : List Commit) (c : Commit) → In d (with_id_order known c) → In d known ⊎ (d ≡ c)
+pub placed_new : (d : Commit) (known : List Commit) (c : Commit) → In d (with_id_order known c) → In d known ⊎ (d ≡ c)
 placed_new d [] c (inl here) = inr here
 placed_new d [] c (inr nowhere) = absurd nowhere
 placed_new d (e ∷ known) c among = cases (placed_new d known c) (id_lt c.id e.id) among
@@ -106,7 +106,7 @@ placed_new d (e ∷ known) c among = cases (placed_new d known c) (id_lt c.id e.
     cases rest false (inr later) = elim (rest later) [ inl was ↦ inl (inr was) | inr is ↦ inr is ]
 
 -- what joins the known ones leaves those that were there
-stays_with : (d : Commit) (known : List Commit) (c : Commit) → In d known → In d (with_commit known c)
+pub stays_with : (d : Commit) (known : List Commit) (c : Commit) → In d known → In d (with_commit known c)
 stays_with d known c among = with_cases (In d) known c among (λ new kept. placed_stays d known c among)
 
 -- ---- each act
@@ -127,7 +127,7 @@ dropped s ids id rule listed =
     (here.0, there.0, same_ids id found.0 found.2 ∙ same_ids found.0 here.0.id here.2, both.0, not-true (is_pinned here.0.id s.part) both.1)
 
 -- a known commit of a pinned id stays known
-pinned_after : (node capacity : ℕ) (s : Service) (act : NodeAct) (answer : Option Reply) (c : Commit) → IsTrue (may_serve node capacity act answer s) → IsTrue (is_pinned c.id s.part)
+pub pinned_after : (node capacity : ℕ) (s : Service) (act : NodeAct) (answer : Option Reply) (c : Commit) → IsTrue (may_serve node capacity act answer s) → IsTrue (is_pinned c.id s.part)
     → In c (known_in s) → In c (known_after (known_in s) act)
 pinned_after node capacity s (Learn commits) answer c rule pinned among = fold_kept with_commit (In c) (stays_with c) (known_in s) commits among
 pinned_after node capacity s (Stored a d) answer c rule pinned among = stays_with c (known_in s) d among
@@ -148,7 +148,7 @@ pinned_extended node capacity s entry id rule pinned has =
 -- ---- a key's greatest id
 
 -- some commit wrote a key at an id that isn't below this one
-abbrev Reached : List ℕ → TxnId → List Commit → Type 0
+abbrev pub Reached : List ℕ → TxnId → List Commit → Type 0
 Reached key id commits = (d : Commit) × In d commits × IsTrue (wrote key d) × IsFalse (id_lt d.id id)
 
 -- what keys have reached they have reached in the second list too
@@ -161,7 +161,7 @@ risen_itself known key id reached = reached
 pub risen_trans : (a b c : List Commit) → Risen a b → Risen b c → Risen a c
 risen_trans a b c first second key id reached = second key id (first key id reached)
 
-risen_more : (before after : List Commit) → ((c : Commit) → In c before → In c after) → Risen before after
+pub risen_more : (before after : List Commit) → ((c : Commit) → In c before → In c after) → Risen before after
 risen_more before after more key id reached = (reached.0, more reached.0 reached.1, reached.2, reached.3)
 
 -- the greatest commit of a key isn't superseded
@@ -175,7 +175,7 @@ greatest_kept key c known wrote_it top =
     true≢false (sym parts.1 ∙ top above.0.id (map_in (λ (e : Commit). e.id) above.0 (filter (wrote key) known) (filter_in (wrote key) above.0 known above.1 too))))
 
 -- each key has a commit that isn't superseded where it has any, and at least as great
-greatest_one : (key : List ℕ) (id : TxnId) (known : List Commit) → Reached key id known → (c : Commit) × In c known × IsTrue (wrote key c) × IsFalse (id_lt c.id id) × IsFalse (is_superseded c known)
+pub greatest_one : (key : List ℕ) (id : TxnId) (known : List Commit) → Reached key id known → (c : Commit) × In c known × IsTrue (wrote key c) × IsFalse (id_lt c.id id) × IsFalse (is_superseded c known)
 greatest_one key id known (d, among, wrote_it, least) =
     let top = greatest_of_some (versions key known) d.id (map_in (λ (e : Commit). e.id) d (filter (wrote key) known) (filter_in (wrote key) d known among wrote_it)) in
     let found = in_map (λ (e : Commit). e.id) top.0 (filter (wrote key) known) top.2 in

@@ -5,6 +5,8 @@ pub mod Sights
 pub mod OneCommit
 pub mod Turns
 pub mod Honesty
+pub mod Followed
+pub mod Told
 pub mod CommitsOnce
 pub mod Formats
 pub mod Places

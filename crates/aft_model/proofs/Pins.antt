@@ -66,7 +66,7 @@ picked_read key None kept choices.Absent id (inr nowhere) = absurd nowhere
 picked_read key None kept (choices.NoneFits blocked) id among = absurd among
 
 -- picks that are the same read the same
-same_read : (p q : Picked) → IsTrue (same_picked p q) → read_by p ≡ read_by q
+pub same_read : (p q : Picked) → IsTrue (same_picked p q) → read_by p ≡ read_by q
 same_read (picked.Own value) (picked.Own value') same = refl
 same_read (picked.Cached id value) (picked.Cached id' value') same = ap (λ i. i ∷ []) (same_ids id id' (and_parts (same_id id id') (bytes_eq value value') same).0)
 same_read (picked.Fetch id) (picked.Fetch id') same = ap (λ i. i ∷ []) (same_ids id id' same)
@@ -93,7 +93,7 @@ read_cases key before (id ∷ ids) pair among =
 
 -- ---- attempts
 
-same_attempts : (a b : Attempt) → IsTrue (same_attempt a b) → a ≡ b
+pub same_attempts : (a b : Attempt) → IsTrue (same_attempt a b) → a ≡ b
 same_attempts a b same =
     let parts = and_parts (eqb a.node b.node && eqb a.inc b.inc) (eqb a.number b.number) same in
     let first = and_parts (eqb a.node b.node) (eqb a.inc b.inc) parts.0 in
@@ -101,22 +101,22 @@ same_attempts a b same =
     ap (λ n. attempt n a.inc a.number) (eqb-true a.node b.node first.0) ∙ ap (λ i. attempt b.node i a.number) (eqb-true a.inc b.inc first.1) ∙ ap (λ k. attempt b.node b.inc k) (eqb-true a.number b.number parts.1)
 
 -- an attempt in some state is there
-abbrev There : AttemptState → Type 0
+abbrev pub There : AttemptState → Type 0
 There state = IsFalse (is_gone state)
 
-opening_there : (state : AttemptState) → IsTrue (is_opening state) → There state
+pub opening_there : (state : AttemptState) → IsTrue (is_opening state) → There state
 opening_there IsOpening is = refl
 opening_there state is = absurd (false≢true is)
 
-running_there : (state : AttemptState) → IsTrue (is_running state) → There state
+pub running_there : (state : AttemptState) → IsTrue (is_running state) → There state
 running_there IsRunning is = refl
 running_there state is = absurd (false≢true is)
 
-committing_there : (state : AttemptState) → IsTrue (is_committing state) → There state
+pub committing_there : (state : AttemptState) → IsTrue (is_committing state) → There state
 committing_there (IsCommitting c) is = refl
 committing_there state is = absurd (false≢true is)
 
-doubt_there : (state : AttemptState) → IsTrue (is_in_doubt state) → There state
+pub doubt_there : (state : AttemptState) → IsTrue (is_in_doubt state) → There state
 doubt_there (IsInDoubt c) is = refl
 doubt_there state is = absurd (false≢true is)
 
@@ -139,7 +139,7 @@ still_there part a b there = cases (same_attempt a b) there
 first_part : (x y : Bool) → IsTrue (x && y) → IsTrue x
 first_part x y both = (and_parts x y both).0
 
-start_runs : (s : Service) (a : Attempt) (now : ℕ) (c : Commit) → IsTrue (may_start s a now c) → IsTrue (is_running (attempt_state a s.part))
+pub start_runs : (s : Service) (a : Attempt) (now : ℕ) (c : Commit) → IsTrue (may_start s a now c) → IsTrue (is_running (attempt_state a s.part))
 start_runs s a now c rule = first_part _ _ (first_part _ _ (first_part _ _ (first_part _ _ (first_part _ _ (first_part _ _ rule)))))
 
 admit_number : (node : ℕ) (s : Service) (a : Attempt) (uuid : List ℕ) → IsTrue (may_admit node s a uuid) → a.number ≡ suc (length (attempts s.part))
@@ -149,7 +149,7 @@ admit_number node s a uuid rule =
 
 module _ (node capacity : ℕ) (s : Service) where
   -- an attempt that is there after an act was there, or the act admits it
-  there_before : (act : NodeAct) (answer : Option Reply) (a : Attempt) → IsTrue (may_serve node capacity act answer s) → There (attempt_after a (attempt_state a s.part) act) → There (attempt_state a s.part) ⊎ In a (admitted_by act)
+  pub there_before : (act : NodeAct) (answer : Option Reply) (a : Attempt) → IsTrue (may_serve node capacity act answer s) → There (attempt_after a (attempt_state a s.part) act) → There (attempt_state a s.part) ⊎ In a (admitted_by act)
   there_before (Admit b uuid) answer a rule there = cases (same_attempt a b) refl there
     where
       cases : (t : Bool) → same_attempt a b ≡ t → There (if t then IsOpening else attempt_state a s.part) → There (attempt_state a s.part) ⊎ In a (b ∷ [])
@@ -195,16 +195,16 @@ module _ (node capacity : ℕ) (s : Service) where
 
 -- ---- from entry to entry
 
-attempt_state-snoc : (a : Attempt) (part : List NodeEntry) (entry : NodeEntry) → attempt_state a (part ++ entry ∷ []) ≡ attempt_after a (attempt_state a part) entry.act
+pub attempt_state-snoc : (a : Attempt) (part : List NodeEntry) (entry : NodeEntry) → attempt_state a (part ++ entry ∷ []) ≡ attempt_after a (attempt_state a part) entry.act
 attempt_state-snoc a part entry = fold-append (λ (before : AttemptState) (e : NodeEntry). attempt_after a before e.act) IsGone part (entry ∷ [])
 
-reads-snoc : (a : Attempt) (part : List NodeEntry) (entry : NodeEntry) → reads a (part ++ entry ∷ []) ≡ reads_after a (reads a part) entry.act
+pub reads-snoc : (a : Attempt) (part : List NodeEntry) (entry : NodeEntry) → reads a (part ++ entry ∷ []) ≡ reads_after a (reads a part) entry.act
 reads-snoc a part entry = fold-append (λ (before : List ReadPair) (e : NodeEntry). reads_after a before e.act) [] part (entry ∷ [])
 
-attempts-snoc : (part : List NodeEntry) (entry : NodeEntry) → attempts (part ++ entry ∷ []) ≡ attempts part ++ admitted_by entry.act
+pub attempts-snoc : (part : List NodeEntry) (entry : NodeEntry) → attempts (part ++ entry ∷ []) ≡ attempts part ++ admitted_by entry.act
 attempts-snoc part entry = flat_map-append (λ (e : NodeEntry). admitted_by e.act) part (entry ∷ []) ∙ ap (λ more. attempts part ++ more) (append-nil (admitted_by entry.act))
 
-has_some : {A : Type 0} (x : A) (xs : List A) → In x xs → 0 < length xs
+pub has_some : {A : Type 0} (x : A) (xs : List A) → In x xs → 0 < length xs
 has_some x [] among = absurd among
 has_some x (y ∷ ys) among = omega arith
 

@@ -58,10 +58,10 @@ moved node capacity history entry (BootStopped inc) answer rule = stops node cap
 moved node capacity history entry (Down inc) answer rule = GoesDown refl
 moved node capacity history entry act answer rule = serves_on node capacity (newest history) (node_state history) entry act answer rule
 
-node_state-snoc : (history : List NodeEntry) (entry : NodeEntry) → node_state (history ++ entry ∷ []) ≡ state_after (node_state history) entry entry.act
+pub node_state-snoc : (history : List NodeEntry) (entry : NodeEntry) → node_state (history ++ entry ∷ []) ≡ state_after (node_state history) entry entry.act
 node_state-snoc history entry = fold-append (λ (before : NodeState) (e : NodeEntry). state_after before e e.act) IsDown history (entry ∷ [])
 
-newest-snoc : (history : List NodeEntry) (entry : NodeEntry) → newest (history ++ entry ∷ []) ≡ newest_after (newest history) entry.act
+pub newest-snoc : (history : List NodeEntry) (entry : NodeEntry) → newest (history ++ entry ∷ []) ≡ newest_after (newest history) entry.act
 newest-snoc history entry = fold-append (λ (before : ℕ) (e : NodeEntry). newest_after before e.act) 0 history (entry ∷ [])
 
 -- how an entry that may follow a history moves the node

@@ -56,7 +56,7 @@ first_below id reads (key ∷ keys) = below_of id key reads (first_below id read
 abbrev pub blockers : List ℕ → List ReadPair → List Commit → List Blocked
 blockers key reads known = flat_map (λ c. first_below c.id reads c.keys) (filter (wrote key) known)
 
--- where no version fits: the key is absent if no known commit wrote it, and else each version is blocked
+-- where no version fits: the key is absent if no known commit wrote it, and else these block its versions
 abbrev pub none_chosen : List (TxnId) → List Blocked → Choice
 none_chosen [] blocked = Absent
 none_chosen (id ∷ ids) blocked = NoneFits blocked
@@ -66,7 +66,7 @@ abbrev pub chosen : Option TxnId → Choice → Choice
 chosen (Some id) otherwise = Version id
 chosen None otherwise = otherwise
 
--- the choice: absent where the key was read absent; else the greatest version that fits; else absent where no known commit wrote the key; else each known version is blocked
+-- the choice: absent where the key was read absent; else the greatest version that fits; else absent where no known commit wrote the key; else what blocks its versions, each of them where the reads are atomic
 abbrev pub choice : List ℕ → List ReadPair → List Commit → Choice
 choice key reads known =
     if is_read (record { key = key; id = zero_id }) reads then Absent

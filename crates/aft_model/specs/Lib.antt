@@ -23,6 +23,7 @@ pub mod Cut
 pub mod Contents
 pub mod NodeState
 pub mod Attempts
+pub mod Origins
 pub mod Known
 pub mod Cache
 pub mod Choice

@@ -21,7 +21,7 @@ pub enum Choice {
     Version(TxnId),
     /// The key is absent.
     Absent,
-    /// Each known version is blocked, ascending by id.
+    /// No version fits: why, ascending by id. Where the reads are atomic, each known version is blocked.
     NoneFits(List<Blocked>),
 }
 
@@ -36,6 +36,6 @@ pub enum Picked {
     Fetch(TxnId),
     /// The key is absent.
     Absent,
-    /// Each known version is blocked, ascending by id.
+    /// No version fits: why, ascending by id. Where the reads are atomic, each known version is blocked.
     NoneFits(List<Blocked>),
 }

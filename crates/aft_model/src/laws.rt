@@ -5,10 +5,13 @@ ghost use Rattle.std.specs.List.{list_any};
 ghost use Rattle.aft_id.specs.declared.txn_id.TxnId.{TxnId};
 ghost use Rattle.aft_records.specs.declared.stored.Commit.{Commit};
 ghost use Rattle.aft_model.specs.declared.door.DoorEntry.{DoorEntry};
+ghost use Rattle.aft_keeper.specs.Contents.{IsContents};
+ghost use Rattle.aft_keeper.specs.declared.keeper.Pair.{Pair};
 ghost use Rattle.aft_records.specs.Superseded.{Superseded};
 ghost use Rattle.aft_model.specs.Claims.{forgotten, claim_place, holder, is_claim_of};
 ghost use Rattle.aft_model.specs.Committed.{Committed, Marked, committed};
-ghost use Rattle.aft_model.specs.DoorKnowledge.{is_open, knows_unused, knows_stored, knows_superseded, knows_marked, knows_record_gone, knows_versions_gone, knows_short, knows_orphan};
+ghost use Rattle.aft_model.specs.Contents.{GoesAlong};
+ghost use Rattle.aft_model.specs.DoorKnowledge.{is_open, knows_unused, knows_stored, knows_superseded, knows_marked, knows_record_gone, knows_versions_gone, knows_short, knows_short_of, knows_orphan};
 ghost use Rattle.aft_model.specs.Membership.{Incarnation};
 ghost use Rattle.aft_model.specs.Course.{KeepsCourse, DeletesNothing, puts_record};
 ghost use Rattle.aft_model.specs.History.{at_place};
@@ -41,6 +44,7 @@ pub fn knowledge_stays()
     ensures marked { (uuid : List ℕ) (history more : List DoorEntry) → IsTrue (knows_marked uuid history) → IsTrue (knows_marked uuid (history ++ more)) }
     ensures record_gone { (id : TxnId) (history more : List DoorEntry) → IsTrue (knows_record_gone id history) → IsTrue (knows_record_gone id (history ++ more)) }
     ensures short { (who : Incarnation) (uuid : List ℕ) (history more : List DoorEntry) → IsTrue (knows_short who uuid history) → IsTrue (knows_short who uuid (history ++ more)) }
+    ensures short_of { (who : Incarnation) (id : TxnId) (history more : List DoorEntry) → IsTrue (knows_short_of who id history) → IsTrue (knows_short_of who id (history ++ more)) }
     ensures orphan { (id : TxnId) (place : ℕ) (history more : List DoorEntry) → IsTrue (knows_orphan id place history) → IsTrue (knows_orphan id place (history ++ more)) }
     ensures versions_gone { (id : TxnId) (history more : List DoorEntry) → IsTrue (knows_versions_gone id history) → IsTrue (knows_versions_gone id (history ++ more)) }
 {}
@@ -48,6 +52,14 @@ pub fn knowledge_stays()
 /// A store that shows only what the names that are called or listed may hold shows of each name what it may hold.
 pub fn honest_everywhere()
     ensures { (name : List ℕ) (history : List DoorEntry) → Honest history → IsTrue (is_honest_about name history) }
+{}
+
+/// A history that some contents of a store go along with is honest, and so is each that begins it: what goes along with a
+/// history goes along with its parts one after the other.
+pub fn contents_tell()
+    ensures honest { (contents : List Pair) (history : List DoorEntry) (now : List Pair) → IsContents contents → GoesAlong contents history now → Honest history }
+    ensures joined { (contents between now : List Pair) (history more : List DoorEntry) → GoesAlong contents history between → GoesAlong between more now → GoesAlong contents (history ++ more) now }
+    ensures parted { (contents now : List Pair) (history more : List DoorEntry) → GoesAlong contents (history ++ more) now → (between : List Pair) × (GoesAlong contents history between) × (GoesAlong between more now) }
 {}
 
 /// In a history without deletes, over a store that keeps what it acknowledged, an id commits once, if each

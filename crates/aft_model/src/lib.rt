@@ -22,8 +22,8 @@ pub use caller::{Attempt, By, Caller, Hold};
 pub use choice::{Blocked, Choice, Picked};
 pub use door::{DoorAct, DoorEntry};
 pub use laws::{
-    claims_have_places, facts_grow, honest_everywhere, id_commits_once, knowledge_stays,
-    stages_keep_course,
+    claims_have_places, contents_tell, facts_grow, honest_everywhere, id_commits_once,
+    knowledge_stays, stages_keep_course,
 };
 pub use mail::{MailAct, MailEntry};
 pub use node::{NodeAct, NodeEntry};

@@ -1,11 +1,15 @@
 //! What a transaction has read.
 
-ghost use Rattle.std.specs.Prelude.{◌≡◌, [], ◌∷◌, ◌++◌, None, OnOk, OnErr};
-ghost use Rattle.aft_model.specs.ReadSet.{read_at, HasEachKeyOnce};
+ghost use Rattle.std.specs.Prelude.{◌≡◌, ◌||◌, ℕ, List, [], ◌∷◌, ◌++◌, None, Some, if◌then◌else◌, OnOk, OnErr};
+ghost use Rattle.std.specs.Str.{bytes_eq};
+ghost use Rattle.aft_id.specs.TxnId.{same_id};
+ghost use Rattle.aft_id.specs.declared.txn_id.TxnId.{TxnId as Id};
+ghost use Rattle.aft_model.specs.ReadSet.{read_at, has_read, id_of, is_seen, HasEachKeyOnce};
 
 use aft_id::{Memory, TxnId};
 use aft_records::Key;
 use std::alloc::Global;
+use std::collections::{BTreeMap, BTreeSet};
 use std::marker::Model;
 
 /// A key, and the id at which it was read: the zero id where it was absent.
@@ -15,22 +19,29 @@ pub struct ReadPair {
     pub id: TxnId,
 }
 
+/// The id at which each key was read.
+type Ids = BTreeMap<Key, TxnId>;
+
 /// Keys and the ids at which they were read, each key once, in order of reading.
 #[derive(Debug, Drop)]
 pub struct ReadSet {
     pairs: Vec<ReadPair>,
+    /// The id at which each key was read.
+    ids: Ids,
+    /// The ids at which some key was read.
+    seen: BTreeSet<TxnId>,
 }
 
 impl Model for ReadSet {
     ghost use Rattle.std.specs.Prelude as prelude;
     ghost use Rattle.aft_model.specs.declared.read_set.ReadPair.{ReadPair};
-    ghost use Rattle.aft_model.specs.ReadSet.{HasEachKeyOnce};
+    ghost use Rattle.aft_model.specs.ReadSet.{IsIndexed};
 
     ghost Value = { prelude.List ReadPair };
 
     ghost view = { λ reads. reads.pairs.items };
 
-    ghost invariant = { λ reads. HasEachKeyOnce reads.pairs.items };
+    ghost invariant = { λ reads. IsIndexed reads.pairs.items reads.ids.entries reads.seen.keys };
 }
 
 impl ReadSet {
@@ -40,14 +51,24 @@ impl ReadSet {
     {
         ReadSet {
             pairs: Vec::new(alloc),
+            ids: BTreeMap::new(alloc),
+            seen: BTreeSet::new(alloc),
         }
     }
 
     /// At which id the key was read, or `None` where it wasn't. Takes no memory.
     pub fn at(&self, key: &Key) -> Option<TxnId>
-        ensures { result ≡ read_at key.now self.now }
+        ensures value { result ≡ read_at key.now self.now }
+        ensures each_once { HasEachKeyOnce self.now }
     {
-        id_at(self.pairs.as_slice(), key)
+        self.ids.get(key).copied()
+    }
+
+    /// Whether some key was read at an id. Takes no memory.
+    pub fn has_read(&self, id: &TxnId) -> bool
+        ensures { result ≡ has_read id.now self.now }
+    {
+        self.seen.contains(id)
     }
 
     /// The pairs, in order of reading. Takes no memory.
@@ -64,19 +85,27 @@ impl ReadSet {
         ensures ok { OnOk result (self.new ≡ self.old ++ record { key = key; id = id } ∷ []) }
         ensures err { OnErr result (self.new ≡ self.old) }
     {
-        self.pairs.push(ReadPair { key, id })?;
+        self.pairs.reserve(1)?;
+        note(&mut self.ids, &mut self.seen, &key, &id)?;
+        self.pairs.push_reserved(ReadPair { key, id });
         Ok(())
     }
 }
 
-/// The id at which the pairs have a key.
-fn id_at(pairs: &[ReadPair], key: &Key) -> Option<TxnId>
-    ensures { result ≡ read_at key.now pairs.now }
+/// Notes in an index that a key was read. Where memory runs out nothing changes.
+fn note(ids: &mut Ids, seen: &mut BTreeSet<TxnId>, key: &Key, id: &TxnId) -> Result<(), Memory>
+    requires { id_of key.now ids.old.entries ≡ None }
+    ensures keys { OnOk result ((k : List ℕ) → id_of k ids.new.entries ≡ (if bytes_eq k key.now then Some id.now else id_of k ids.old.entries)) }
+    ensures ids { OnOk result ((v : Id) → is_seen v seen.new.keys ≡ (is_seen v seen.old.keys || same_id v id.now)) }
+    ensures same_keys { OnErr result ((k : List ℕ) → id_of k ids.new.entries ≡ id_of k ids.old.entries) }
+    ensures same_ids { OnErr result ((v : Id) → is_seen v seen.new.keys ≡ is_seen v seen.old.keys) }
 {
-    for pair in pairs {
-        if *key == pair.key {
-            return Some(pair.id);
+    ids.insert(key.clone()?, *id)?;
+    match seen.insert(*id) {
+        Ok(_) => Ok(()),
+        Err(_) => {
+            ids.remove(key);
+            Err(Memory)
         }
     }
-    None
 }

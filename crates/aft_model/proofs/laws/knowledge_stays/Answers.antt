@@ -1,4 +1,4 @@
-use Rattle.aft_model.proofs.Growth.{any_grows, unused_grows, stored_grows, knows_superseded_grows, knows_marked_grows, record_gone_grows, short_grows, orphan_grows, versions_gone_grows}
+use Rattle.aft_model.proofs.Growth.{any_grows, unused_grows, stored_grows, knows_superseded_grows, knows_marked_grows, record_gone_grows, short_grows, short_of_grows, orphan_grows, versions_gone_grows}
 use Rattle.aft_model.specs.DoorKnowledge.{opens}
 use Rattle.aft_model.proofs.laws.knowledge_stays.Goals as goal
 
@@ -25,6 +25,9 @@ returns-clause-versions_gone c = versions_gone_grows
 
 pub returns-clause-short : goal.returns-clause-short
 returns-clause-short c = short_grows
+
+pub returns-clause-short_of : goal.returns-clause-short_of
+returns-clause-short_of c = short_of_grows
 
 pub returns-clause-orphan : goal.returns-clause-orphan
 returns-clause-orphan c = orphan_grows
