@@ -1,6 +1,6 @@
 -- What one turn more makes of a line's position.
 use Rattle.std.specs.Prelude.{Bool, List, None, Option, Some, [], false, filter, if◌then◌else◌, is_some, not, suc, take, true, ℕ, ◌&&◌, ◌++◌, ◌==◌, ◌∷◌}
-use Rattle.std.specs.List.{fold, list_any}
+use Rattle.std.specs.List.{flat_map, fold, list_any}
 use Rattle.std.specs.Str.{bytes_eq}
 use Rattle.aft_id.specs.declared.txn_id.TxnId.{TxnId}
 use Rattle.aft_keeper.specs.declared.keeper.KeeperAnswer.{KeeperAnswer}
@@ -31,7 +31,7 @@ use Rattle.aft_lines.specs.ForgetCourse.{finds_short}
 use Rattle.aft_lines.specs.GetCourse.{ends_get, loses}
 use Rattle.aft_lines.specs.LineCourse.{ends_boot, follows_course}
 use Rattle.aft_lines.specs.OrphanCourse.{VersionAt, found_on, tells_round, versions_prefix}
-use Rattle.aft_lines.specs.Progress.{Admitted, Along, AnyReason, Between, BootScan, BootScanned, CopyMarkers, CopyRecords, Copying, EndsAborted, EndsCommitted, EndsLeft, Fetching, FoundAborted, FoundNoRecord, FoundShort, FoundUnused, HasClaim, HasFailed, HasFenced, HasFetched, HasForgotten, HasReleased, Holding, Holds, IsNodeStored, IsOver, IsRecorded, IsStoring, LookedOnce, LookedTwice, MustComeUp, MustDoubt, MustEnd, MustFence, MustFree, MustLeave, MustRelease, MustTell, NoRoom, NotBegun, OrphanScan, Outcome, Progress, Reason, Refusal, Scanning, Settling, Stopped, has_ended}
+use Rattle.aft_lines.specs.Progress.{Admitted, Along, AnyReason, AtDesk, BootScan, BootScanned, CopyMarkers, CopyRecords, Copying, EndsAborted, EndsCommitted, EndsLeft, Fetching, FoundAborted, FoundNoRecord, FoundShort, FoundUnused, HasClaim, HasFailed, HasFenced, HasFetched, HasForgotten, HasLeft, HasReleased, Holding, Holds, InRound, IsNodeStored, IsOver, IsRecorded, IsStoring, LookedOnce, LookedTwice, MustComeUp, MustDoubt, MustEnd, MustFence, MustFree, MustLeave, MustRelease, MustTell, NoRoom, NotBegun, OrphanScan, Outcome, Progress, Reason, Refusal, Scanning, Settling, Standing, Stopped, has_ended}
 use Rattle.aft_lines.specs.ScanCourse.{ScanLimit, copy_limit, names_limit, stops_at, versions_limit}
 use Rattle.aft_lines.specs.Turns.{AtDoor, AtNode, Turn, answer_in}
 use Rattle.aft_model.specs.declared.node.NodeAct.TheVariants as acts
@@ -326,63 +326,83 @@ advance_copy ends position turn = None
 
 -- ---- rounds of orphans
 
-abbrev pub behind_orphan_page : Scan → Progress
-behind_orphan_page (GoesOn scan) = OrphanScan scan
-behind_orphan_page (HasEnded true scan) = Between (found_on scan.listed)
-behind_orphan_page (HasEnded false scan) = MustTell false
+-- the one way to stand, if a test is passed
+abbrev pub stands_if : Bool → Standing → List Standing
+stands_if passed standing = if passed then standing ∷ [] else []
 
--- the versions from the first one of a UUID on
-abbrev pub from_uuid : List ℕ → List VersionAt → List VersionAt
-from_uuid uuid [] = []
-from_uuid uuid (one ∷ more) = if bytes_eq uuid one.id.uuid then one ∷ more else from_uuid uuid more
+-- behind a claim of a UUID: it may be for each version of it that is left, and those before that one were passed over
+abbrev pub held_for : List ℕ → List VersionAt → List Standing
+held_for uuid [] = []
+held_for uuid (one ∷ rest) = if bytes_eq uuid one.id.uuid then Holds (record { one = one; rest = rest }) ∷ held_for uuid rest else held_for uuid rest
 
--- a round that holds a UUID for the first of these versions, by a claim at this place
-abbrev pub held_for : ℕ → List VersionAt → Option Progress
-held_for place [] = None
-held_for place (one ∷ rest) = Some (Holds (record { place = place; one = one; rest = rest }))
+abbrev pub claimed_at_desk : List VersionAt → Turn → List Standing
+claimed_at_desk left (AtDoor place (doors.Claim uuid node inc)) = if same_incarnation the_office (incarnation node inc) then held_for uuid left else []
+claimed_at_desk left turn = []
 
--- the claim of one of the versions that are left: the first of that UUID; those before it were passed over
-abbrev pub claimed_at_desk : List VersionAt → Turn → Option Progress
-claimed_at_desk left (AtDoor place (doors.Claim uuid node inc)) = if same_incarnation the_office (incarnation node inc) then held_for place (from_uuid uuid left) else None
-claimed_at_desk [] turn = told_by_office (tells_round true) turn
-claimed_at_desk left turn = told_by_office office_answers turn
-
--- the release of a round's claim: it goes on, or must answer
-abbrev pub freed_at_desk : Holding → Bool → Turn → Option Progress
-freed_at_desk held goes_on (AtDoor place (doors.Release uuid node inc)) =
-    if_so (same_incarnation the_office (incarnation node inc) && bytes_eq held.one.id.uuid uuid) (if goes_on then Between held.rest else MustTell false)
-freed_at_desk held goes_on turn = None
+-- the release of a round's claim: it goes on with what is left, or must answer
+abbrev pub freed_at_desk : Bool → Holding → Turn → List Standing
+freed_at_desk goes_on held (AtDoor place (doors.Release uuid node inc)) =
+    stands_if (same_incarnation the_office (incarnation node inc) && bytes_eq held.one.id.uuid uuid) (if goes_on then HasLeft held.rest else MustTell)
+freed_at_desk goes_on held turn = []
 
 -- behind a look at a name
-abbrev pub behind_desk_look : Holding → List ℕ → Progress → KeeperAnswer → Progress
-behind_desk_look held name next Failed = MustFree held true
+abbrev pub behind_desk_look : Holding → List ℕ → Standing → KeeperAnswer → Standing
+behind_desk_look held name next Failed = MustFree true held
 behind_desk_look held name next answer =
-    if list_any (λ pair. is_listed held.one.id (ids_in pair)) (found_pair name answer) then MustFree held true
-    else if list_any (λ pair. not (has_reading pair)) (found_pair name answer) then MustFree held false
+    if list_any (λ pair. is_listed held.one.id (ids_in pair)) (found_pair name answer) then MustFree true held
+    else if list_any (λ pair. not (has_reading pair)) (found_pair name answer) then MustFree false held
     else next
 
 -- a look of a round at a name, or its release for want of memory
-abbrev pub looked_at_desk : Holding → List ℕ → Progress → Turn → Option Progress
+abbrev pub looked_at_desk : Holding → List ℕ → Standing → Turn → List Standing
 looked_at_desk held name next (AtDoor place (doors.Call node inc (calls.Get got) answer)) =
-    if_so (same_incarnation the_office (incarnation node inc) && bytes_eq name got) (behind_desk_look held name next answer)
-looked_at_desk held name next turn = freed_at_desk held false turn
+    stands_if (same_incarnation the_office (incarnation node inc) && bytes_eq name got) (behind_desk_look held name next answer)
+looked_at_desk held name next turn = freed_at_desk false held turn
 
 -- the delete of a version, or the release for want of memory
-abbrev pub deleted_at_desk : Holding → Turn → Option Progress
+abbrev pub deleted_at_desk : Holding → Turn → List Standing
 deleted_at_desk held (AtDoor place (doors.Call node inc (calls.Delete name) answer)) =
-    if_so (same_incarnation the_office (incarnation node inc) && bytes_eq (version_name held.one.key held.one.id) name) (MustFree held true)
-deleted_at_desk held turn = freed_at_desk held false turn
+    stands_if (same_incarnation the_office (incarnation node inc) && bytes_eq (version_name held.one.key held.one.id) name) (MustFree true held)
+deleted_at_desk held turn = freed_at_desk false held turn
 
--- the next position of a round of orphans. Where several versions have one UUID, which of them a claim is for may not show before the delete; the first is taken
+-- the ways to stand behind one turn more
+abbrev pub moved_at_desk : Turn → Standing → List Standing
+moved_at_desk turn (HasLeft left) = claimed_at_desk left turn
+moved_at_desk turn (Holds held) = looked_at_desk held (record_name held.one.id.uuid) (LookedOnce held) turn
+moved_at_desk turn (LookedOnce held) = looked_at_desk held (marker_name held.one.id.uuid) (LookedTwice held) turn
+moved_at_desk turn (LookedTwice held) = deleted_at_desk held turn
+moved_at_desk turn (MustFree goes_on held) = freed_at_desk goes_on held turn
+moved_at_desk turn MustTell = []
+
+-- whether a turn is the answer of a round that may stand so: with its counts where nothing is left, and else with them or, since it went no further, without
+abbrev pub told_at_desk : Turn → Standing → Bool
+told_at_desk turn (HasLeft []) = ends_at_office (tells_round true) (turn ∷ [])
+told_at_desk turn (HasLeft left) = ends_at_office office_answers (turn ∷ [])
+told_at_desk turn MustTell = ends_at_office (tells_round false) (turn ∷ [])
+told_at_desk turn standing = false
+
+-- what a round holds behind one turn more
+abbrev pub desk_behind : Option AtDesk → Turn → Option AtDesk
+desk_behind desk (AtDoor place (doors.Claim uuid node inc)) = Some (record { uuid = uuid; place = place })
+desk_behind desk (AtDoor place (doors.Release uuid node inc)) = None
+desk_behind desk turn = desk
+
+-- a round that may stand in some way, if there is one
+abbrev pub in_round : Option AtDesk → List Standing → Option Progress
+in_round desk [] = None
+in_round desk (standing ∷ standings) = Some (InRound desk (standing ∷ standings))
+
+abbrev pub behind_orphan_page : Scan → Progress
+behind_orphan_page (GoesOn scan) = OrphanScan scan
+behind_orphan_page (HasEnded true scan) = InRound None (HasLeft (found_on scan.listed) ∷ [])
+behind_orphan_page (HasEnded false scan) = InRound None (MustTell ∷ [])
+
+-- the next position of a round of orphans. Where several versions have one UUID, which of them a claim is for may not show before the delete, so each way is kept
 abbrev pub advance_orphans : List ℕ → Progress → Turn → Option Progress
 advance_orphans key NotBegun turn = paged_by behind_orphan_page (scanned_by (scan_of versions_limit the_office (versions_prefix key)) turn) (told_by_office (tells_round false) turn)
 advance_orphans key (OrphanScan scan) turn = paged_by behind_orphan_page (scanned_by scan turn) (told_by_office (tells_round false) turn)
-advance_orphans key (Between left) turn = claimed_at_desk left turn
-advance_orphans key (Holds held) turn = looked_at_desk held (record_name held.one.id.uuid) (LookedOnce held) turn
-advance_orphans key (LookedOnce held) turn = looked_at_desk held (marker_name held.one.id.uuid) (LookedTwice held) turn
-advance_orphans key (LookedTwice held) turn = deleted_at_desk held turn
-advance_orphans key (MustFree held goes_on) turn = freed_at_desk held goes_on turn
-advance_orphans key (MustTell whole) turn = told_by_office (tells_round whole) turn
+advance_orphans key (InRound desk standings) turn =
+    if list_any (told_at_desk turn) standings then Some IsOver else in_round (desk_behind desk turn) (flat_map (moved_at_desk turn) standings)
 advance_orphans key position turn = None
 
 -- ---- first turns

@@ -1,9 +1,8 @@
 -- The course of a commit and of an abort: their turns, in order.
-use Rattle.std.specs.Prelude.{Bool, List, None, Option, Some, [], drop, false, filter, if◌then◌else◌, length, map, not, true, ℕ, ◌&&◌, ◌-◌, ◌==◌, ◌||◌, ◌∷◌}
-use Rattle.std.specs.List.{fold, list_any}
+use Rattle.std.specs.Prelude.{Bool, List, None, Option, Some, [], false, if◌then◌else◌, true, ℕ, ◌&&◌, ◌==◌, ◌||◌, ◌∷◌}
+use Rattle.std.specs.List.{list_any}
 use Rattle.std.specs.Str.{bytes_eq}
-use Rattle.aft_id.specs.declared.txn_id.TxnId.{TxnId}
-use Rattle.aft_id.specs.TxnId.{id_lt, same_id, zero_id}
+use Rattle.aft_id.specs.TxnId.{same_id}
 use Rattle.aft_keeper.specs.declared.keeper.KeeperAnswer.{KeeperAnswer}
 use Rattle.aft_keeper.specs.declared.keeper.KeeperCall.TheVariants.{Get, Put}
 use Rattle.aft_keeper.specs.declared.keeper.Pair.{Pair}
@@ -15,11 +14,11 @@ use Rattle.aft_model.specs.declared.door.DoorAct.TheVariants.{Call, Release}
 use Rattle.aft_model.specs.declared.node.NodeAct.{NodeAct}
 use Rattle.aft_model.specs.declared.node.NodeAct.TheVariants.{Doubt, End, Leave, Nothing, Settle, Start, Stored}
 use Rattle.aft_model.specs.declared.node.NodeEntry.{NodeEntry}
-use Rattle.aft_model.specs.declared.read_set.ReadPair.{ReadPair}
 use Rattle.aft_model.specs.declared.reply.Reply.{Reply}
-use Rattle.aft_model.specs.Attempts.{Write, attempt_state, buffer, fixed_commit, reads, same_attempt, uuid_of}
+use Rattle.aft_model.specs.Attempts.{Write, attempt_state, buffer, fixed_commit, same_attempt, uuid_of}
 use Rattle.aft_model.specs.Membership.{incarnation, same_incarnation}
 use Rattle.aft_model.specs.NodeState.{part}
+use Rattle.aft_model.specs.Origins.{record_by}
 use Rattle.aft_model.specs.Readings.{record_name, same_record, versions_in, written_in}
 use Rattle.aft_model.specs.Stages.{is_acknowledged}
 use Rattle.aft_lines.specs.CourseWords.{Ends, answers_down, any_answer, caller_of, closes, ends_at_node, ends_shut_out, finds_nothing, finds_record, is_over, tells_down, tells_no_memory, tells_refused}
@@ -27,27 +26,6 @@ use Rattle.aft_lines.specs.Turns.{AtDoor, AtNode, Turn}
 use Rattle.aft_model.specs.declared.reply.Reply.TheVariants as replies
 
 -- ---- what is stored
-
--- the ids in their order with one more, if it isn't there
-abbrev pub with_id : List TxnId → TxnId → List TxnId
-with_id [] id = id ∷ []
-with_id (other ∷ ids) id = if id_lt id other then id ∷ other ∷ ids else if same_id id other then other ∷ ids else other ∷ with_id ids id
-
--- the ids at which something was read, each once, ascending; an absent key has none
-abbrev pub read_ids : List ReadPair → List TxnId
-read_ids pairs = fold with_id [] (filter (λ id. not (same_id id zero_id)) (map (λ pair. pair.id) pairs))
-
--- how many ids a record names at most
-abbrev pub most_reads : ℕ
-most_reads = 8
-
--- the greatest of the ids that an attempt has read, as many as a record may name
-abbrev pub greatest_reads : List ReadPair → List TxnId
-greatest_reads pairs = drop (length (read_ids pairs) - most_reads) (read_ids pairs)
-
--- the record of an attempt's commit: it names the attempt's incarnation and what it read
-abbrev pub record_by : Attempt → List NodeEntry → Commit → Record
-record_by a part c = record { commit = c; origin = record { node = a.node; inc = a.inc; reads = greatest_reads (reads a part) } }
 
 -- what is stored: an attempt's record and its values
 pub record Storing : Type 0 where

@@ -23,7 +23,7 @@ use Rattle.aft_model.specs.ScanRun.{same_line}
 use Rattle.aft_lines.specs.Asked.{Asked, Ran}
 use Rattle.aft_lines.specs.Headline.{seen_at}
 use Rattle.aft_lines.specs.Lines.{lines}
-use Rattle.aft_lines.specs.Progress.{Holding, Holds, LookedOnce, LookedTwice, MustFree, Progress}
+use Rattle.aft_lines.specs.Progress.{AtDesk, InRound, Progress}
 use Rattle.aft_lines.specs.RunsSoFar.{position_of}
 use Rattle.aft_lines.specs.Views.{view_of}
 use Rattle.aft_model.specs.declared.node.NodeAct.TheVariants as acts
@@ -94,28 +94,23 @@ FetchesStayOpen trace = IsTrue (fetches_stay_open trace)
 
 -- ---- the desk of the office
 
--- what a line's position holds for the office: the UUID and the place of its claim
-pub record AtDesk : Type 0 where
-  pub uuid : List ℕ
-  pub place : ℕ
+-- what a line's position holds for the office
+abbrev pub held_at : Progress → Option AtDesk
+held_at (InRound desk standings) = desk
+held_at position = None
 
-abbrev pub at_desk : Holding → List AtDesk
-at_desk held = record { uuid = held.one.id.uuid; place = held.place } ∷ []
-
-abbrev pub held_at : Progress → List AtDesk
-held_at (Holds held) = at_desk held
-held_at (LookedOnce held) = at_desk held
-held_at (LookedTwice held) = at_desk held
-held_at (MustFree held goes_on) = at_desk held
-held_at position = []
-
-abbrev pub held_at_position : Option Progress → List AtDesk
-held_at_position None = []
+abbrev pub held_at_position : Option Progress → Option AtDesk
+held_at_position None = None
 held_at_position (Some position) = held_at position
+
+-- an element that may be there, as a list
+abbrev pub option_list : {A : Type 0} → Option A → List A
+option_list None = []
+option_list (Some a) = a ∷ []
 
 -- what the lines of a run so far hold for the office
 abbrev pub held_by_lines : Asked → Ran → List AtDesk
-held_by_lines asked ran = flat_map (λ line. held_at_position (position_of (view_of asked ran line))) (lines asked)
+held_by_lines asked ran = flat_map (λ line. option_list (held_at_position (position_of (view_of asked ran line)))) (lines asked)
 
 -- the UUIDs that the office has claimed
 abbrev pub claimed_for_office : DoorAct → List (List ℕ)
@@ -125,11 +120,6 @@ claimed_for_office act = []
 -- the places by which lines hold a UUID for the office
 abbrev pub places_of : List ℕ → List AtDesk → List ℕ
 places_of uuid desk = map (λ held. held.place) (filter (λ held. bytes_eq uuid held.uuid) desk)
-
--- an element that may be there, as a list
-abbrev pub option_list : Option ℕ → List ℕ
-option_list None = []
-option_list (Some n) = n ∷ []
 
 -- the places by which the office holds a UUID: one, or none
 abbrev pub office_places : List ℕ → List DoorEntry → List ℕ

@@ -1,5 +1,5 @@
 -- Which histories may come of a run that asks this.
-use Rattle.std.specs.Prelude.{Bool, IsTrue, List, None, Option, Some, [], drop, false, if◌then◌else◌, length, map, nat_le, nat_lt, not, suc, true, ℕ, ◌&&◌, ◌++◌, ◌==◌, ◌||◌, ◌∷◌}
+use Rattle.std.specs.Prelude.{Bool, IsTrue, List, None, Option, Some, [], drop, false, if◌then◌else◌, is_some, length, map, nat_le, nat_lt, not, suc, true, ℕ, ◌&&◌, ◌++◌, ◌==◌, ◌||◌, ◌∷◌}
 use Rattle.std.specs.List.{list_all, list_any}
 use Rattle.std.specs.Str.{bytes_eq}
 use Rattle.aft_id.specs.declared.txn_id.TxnId.{TxnId}
@@ -31,7 +31,7 @@ use Rattle.aft_lines.specs.FinishedText.{answers_of, line_of}
 use Rattle.aft_lines.specs.LineCourse.{keeps_course}
 use Rattle.aft_lines.specs.LinePosts.{keeps_mail}
 use Rattle.aft_lines.specs.LineView.{ends_of, history_at}
-use Rattle.aft_lines.specs.Lines.{lines, node_numbers, whole_order}
+use Rattle.aft_lines.specs.Lines.{begins, lines, node_numbers, whole_order}
 use Rattle.aft_lines.specs.OpeningCourse.{opening_course}
 use Rattle.aft_lines.specs.Turns.{AtDoor, AtNode, AtOffice, Turn, end_front, turns}
 use Rattle.aft_lines.specs.Views.{each_view, have_causes}
@@ -267,9 +267,16 @@ session_client = 65
 abbrev pub is_numbered_behind : List Line → Line → Bool
 is_numbered_behind before line = list_all (λ other. nat_lt other.number line.number) before
 
--- whether the lines that a session asks are of its client, and numbered behind those of the script
+-- whether a session may ask a line: it is of its client, and begins, puts, gets, commits or aborts
+abbrev pub may_be_asked : Line → Bool
+may_be_asked line = line.client == session_client && (begins line.order || speaks_of_attempt line.order)
+
+-- whether the lines that a session asks are such ones, numbered behind those of the script; with threads there are none
 abbrev pub are_asks : Asked → Bool
-are_asks asked = list_all (λ line. line.client == session_client) asked.asks && each_after is_numbered_behind asked.script.lines asked.asks
+are_asks asked =
+    list_all may_be_asked asked.asks
+    && each_after is_numbered_behind asked.script.lines asked.asks
+    && (is_some asked.order || length asked.asks == 0)
 
 -- whether they ran whole, one after the other, behind all lines of the script
 abbrev pub asked_last : Asked → Ran → Bool

@@ -63,3 +63,36 @@ abbrev pub opens_so_far : List ℕ → List Turn → Bool
 opens_so_far nodes [] = true
 opens_so_far nodes (AtDoor place act ∷ line) = if opens act then boots_so_far nodes line else opens_so_far nodes line
 opens_so_far nodes line = false
+
+-- ---- an opening on its way
+
+-- behind the turns of a boot so far: the boot serves, and the rest of the opening follows
+abbrev pub boot_end_begins : Incarnation → (List Turn → Bool) → List Turn → Bool
+boot_end_begins who go_on line = is_over line || boot_end_course who go_on line
+
+-- a scan run of a boot on its way; where it was whole the boot serves
+abbrev pub boot_scan_begins : Incarnation → (List Turn → Bool) → Scanned → Bool
+boot_scan_begins who go_on pages = if pages.is_whole then boot_end_begins who go_on pages.behind else is_over pages.behind
+
+-- an incarnation is to come up, and scans the records
+abbrev pub boot_up_begins : Incarnation → (List Turn → Bool) → List Turn → Bool
+boot_up_begins who go_on [] = true
+boot_up_begins who go_on (AtDoor place (door_acts.Up node inc) ∷ line) = same_incarnation who (incarnation node inc) && boot_scan_begins who go_on (scanned names_limit who records_prefix line)
+boot_up_begins who go_on line = false
+
+-- the beginning of a boot, by the act of its first turn
+abbrev pub boot_begins : ℕ → (List Turn → Bool) → NodeAct → List Turn → Bool
+boot_begins node go_on (Booting inc) line = boot_up_begins (incarnation node inc) go_on line
+boot_begins node go_on act line = false
+
+-- the beginning of one boot of each of these nodes, in order. It may end after any turn
+abbrev pub boots_begin : List ℕ → List Turn → Bool
+boots_begin nodes [] = true
+boots_begin (node ∷ nodes) (AtNode at before entry ∷ line) = node == at && boot_begins node (boots_begin nodes) entry.act line
+boots_begin nodes line = false
+
+-- the beginning of an opening, or the whole of it
+abbrev pub opening_begins : List ℕ → List Turn → Bool
+opening_begins nodes [] = true
+opening_begins nodes (AtDoor place act ∷ line) = if opens act then boots_begin nodes line else opening_begins nodes line
+opening_begins nodes line = false

@@ -1,5 +1,5 @@
 -- How far a line has come in its course: its position.
-use Rattle.std.specs.Prelude.{Bool, List, false, true, ℕ}
+use Rattle.std.specs.Prelude.{Bool, List, Option, false, true, ℕ}
 use Rattle.aft_id.specs.declared.txn_id.TxnId.{TxnId}
 use Rattle.aft_keeper.specs.declared.keeper.Pair.{Pair}
 use Rattle.aft_records.specs.declared.stored.Commit.{Commit}
@@ -33,11 +33,24 @@ pub record Scanning : Type 0 where
   pub after : List ℕ
   pub listed : List Pair
 
--- a round of orphans that holds a UUID: the place of its claim, the version, and those that follow
+-- a version whose UUID a round of orphans holds, and those that follow
 pub record Holding : Type 0 where
-  pub place : ℕ
   pub one : VersionAt
   pub rest : List VersionAt
+
+-- one way in which a round of orphans may stand: it has these versions left; it holds the UUID of one; it has looked at the record; and at the marker; it must let the UUID go, and goes on or ends there; it must answer, without its counts
+pub data Standing : Type 0 where
+  HasLeft : List VersionAt → Standing
+  Holds : Holding → Standing
+  LookedOnce : Holding → Standing
+  LookedTwice : Holding → Standing
+  MustFree : Bool → Holding → Standing
+  MustTell : Standing
+
+-- a UUID that the office holds, and the place of its claim
+pub record AtDesk : Type 0 where
+  pub uuid : List ℕ
+  pub place : ℕ
 
 -- a line's position
 pub data Progress : Type 0 where
@@ -68,14 +81,9 @@ pub data Progress : Type 0 where
   MustComeUp : Incarnation → Progress
   BootScan : Scanning → Progress
   BootScanned : Incarnation → Bool → Progress
-  -- a round of orphans: it scans; it has these versions left; it holds a UUID; it has looked at the record; and at the marker; it must let the UUID go, and goes on or ends there; it must answer, with its counts or without
+  -- a round of orphans: it scans; the UUID that it holds, if it does, and each way in which it may stand
   OrphanScan : Scanning → Progress
-  Between : List VersionAt → Progress
-  Holds : Holding → Progress
-  LookedOnce : Holding → Progress
-  LookedTwice : Holding → Progress
-  MustFree : Holding → Bool → Progress
-  MustTell : Bool → Progress
+  InRound : Option AtDesk → List Standing → Progress
   -- a copy: it scans the records, and then the markers; it gets these versions; it must be fenced, with all copied or not; it has been
   CopyRecords : Copier → Scanning → Progress
   CopyMarkers : Copier → List Commit → Scanning → Progress

@@ -19,10 +19,11 @@ only_opens ran = list_all (list_all (same_line opening)) (makers ran)
 abbrev pub are_empty : {A : Type 0} → List (List A) → Bool
 are_empty histories = list_all (λ history. length history == 0) histories
 
--- whether the opening was refused on its way: at the door it did the beginning of its course, and nothing else was done; there are no boxes
+-- whether the opening was refused on its way: at the door it did the beginning of its course, and nothing else was done; each node has its empty history, and there are no boxes
 abbrev pub was_refused : Asked → Ran → Bool
 was_refused asked ran =
     are_empty ran.trace.nodes
+    && length ran.trace.nodes == asked.settings.nodes
     && length ran.trace.office == 0
     && length ran.mail == 0
     && opens_so_far (node_numbers asked.settings) (turns opening ran.trace)

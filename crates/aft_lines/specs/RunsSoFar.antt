@@ -12,11 +12,11 @@ use Rattle.aft_lines.specs.Advance.{is_led_to_end, leads_to}
 use Rattle.aft_lines.specs.Asked.{Asked, Ran}
 use Rattle.aft_lines.specs.CausesRounds.{is_collect}
 use Rattle.aft_lines.specs.CourseWords.{caller_of}
-use Rattle.aft_lines.specs.LegalTrace.{are_legal_nodes, fits_settings, give_ups_backed, is_of_lines, makers}
+use Rattle.aft_lines.specs.LegalTrace.{are_legal_nodes, fits_settings, give_ups_backed, is_of_lines, makers, speak_of_held}
 use Rattle.aft_lines.specs.LineCourse.{answers_last, follows_course}
 use Rattle.aft_lines.specs.LineView.{LineView, ends_of}
 use Rattle.aft_lines.specs.Lines.{lines, node_numbers}
-use Rattle.aft_lines.specs.OpeningCourse.{opening_course}
+use Rattle.aft_lines.specs.OpeningCourse.{opening_begins}
 use Rattle.aft_lines.specs.Progress.{Progress, Stopped}
 use Rattle.aft_lines.specs.Steps.{own_steps, steps}
 use Rattle.aft_lines.specs.Turns.{AtDoor, AtNode, AtOffice, Turn, turns}
@@ -44,9 +44,9 @@ is_stopped_rightly seen line position = true
 abbrev pub all_stopped_rightly : Asked → Ran → Bool
 all_stopped_rightly asked ran = each_view (λ view. is_stopped_rightly view.seen view.turns (position_of view)) asked ran
 
--- whether each entry is of a line or of the opening, whose course is whole
+-- whether each entry is of a line or of the opening, whose turns are the beginning of its course, or the whole
 abbrev pub opens_so : Asked → Ran → Bool
-opens_so asked ran = list_all (list_all (is_of_lines (lines asked))) (makers ran) && opening_course (node_numbers asked.settings) (turns opening ran.trace)
+opens_so asked ran = list_all (list_all (is_of_lines (lines asked))) (makers ran) && opening_begins (node_numbers asked.settings) (turns opening ran.trace)
 
 -- a run so far
 pub record RunsSoFar (asked : Asked) (ran : Ran) : Type 0 where
@@ -57,6 +57,7 @@ pub record RunsSoFar (asked : Asked) (ran : Ran) : Type 0 where
   pub opening : IsTrue (opens_so asked ran)
   pub lines : IsTrue (all_lead_somewhere asked ran)
   pub stopped : IsTrue (all_stopped_rightly asked ran)
+  pub attempts : IsTrue (speak_of_held asked ran)
   pub give_ups : IsTrue (give_ups_backed ran.trace)
 
 -- whether two tests answer the same

@@ -1,7 +1,14 @@
 -- Runs in which the store is copied, beside a collection and beside a commit.
 use Rattle.std.specs.Prelude.{ℕ, ◌+◌, List, [], ◌∷◌, ◌++◌, map, length, codes}
+use Rattle.std.specs.List.{flat_map}
 use Rattle.aft_keeper.specs.declared.keeper.Pair.{Pair}
 use Rattle.aft_records.specs.declared.stored.Commit.{Commit}
+use Rattle.aft_lines.specs.BackupCourse.{copy_of}
+use Rattle.aft_lines.specs.FinishedText.{line_of}
+use Rattle.aft_lines.specs.LineView.{ends_of}
+use Rattle.aft_lines.specs.Lines.{lines}
+use Rattle.aft_lines.specs.Turns.{turns}
+use Rattle.aft_lines.specs.Views.{view_of}
 use Rattle.aft_model.specs.Membership.{Incarnation, incarnation}
 use Rattle.aft_model.specs.declared.caller.By.{By}
 use Rattle.aft_model.specs.declared.door.DoorAct.TheVariants as acts
@@ -10,7 +17,7 @@ use Rattle.aft_model.specs.declared.office.OfficeAct.TheVariants as desk
 use Rattle.aft_model.specs.declared.reply.Reply.{Reply}
 use Rattle.aft_model.specs.declared.reply.Reply.TheVariants as replies
 use Rattle.aft_model.specs.declared.script.Command.TheVariants as commands
-use Rattle.aft_histories.specs.Entries.{x, full_pair, record_pair, version_of}
+use Rattle.aft_histories.specs.Entries.{x, done_pair, full_pair, record_pair, version_of}
 use Rattle.aft_runs.specs.Entries.{does, finds, lists, misses, closes}
 use Rattle.aft_runs.specs.Lines.{opening, opens, opens_on, boots, attempt, begins, puts, commits}
 use Rattle.aft_runs.specs.Pinned.{older, newer}
@@ -159,3 +166,11 @@ copied taken marked = replies.Copied taken marked
 
 abbrev pub tells_missing : Reply
 tells_missing = replies.Damaged (version_of x older.id)
+
+-- what was copied in a run
+abbrev pub copied_in : Run → List Pair
+copied_in told = flat_map (λ line. copy_of (ends_of (view_of told.asked told.ran line)) (turns (line_of line) told.ran.trace)) (lines told.asked)
+
+-- the newer commit, and the short marker of the older one
+abbrev pub newer_and_marker : List Pair
+newer_and_marker = record_pair (commit_of newer) ∷ done_pair older.id ∷ version_pairs newer

@@ -82,6 +82,10 @@ is_down = replies.NodeDown 1 1
 abbrev pub stopped : Work
 stopped = goes_down 11 (by 2 4)
 
+-- it only answers that the node is down
+abbrev pub only_answers : Work
+only_answers = at_node (answering 11 (by 1 3) turns.Nothing is_down ∷ [])
+
 -- ---- a commit that meets a fault
 
 -- its put of the record fails, this comes of its get of it, and it is left in doubt with this answer

@@ -25,7 +25,7 @@ two_lines = record { lines = record { number = 1; client = 1; order = Get x } �
 
 -- that a run is asked for it, and a session asks one line more
 abbrev pub asks_two : Asked
-asks_two = record { script = two_lines; order = None; asks = record { number = 4; client = 65; order = Get x } ∷ []; settings = nodes 2; clock = None }
+asks_two = record { script = two_lines; order = Some (record { words = [] }); asks = record { number = 4; client = 65; order = Get x } ∷ []; settings = nodes 2; clock = None }
 
 -- what came of a run, at its two nodes and the office
 abbrev pub came : List NodeEntry → List NodeEntry → List OfficeEntry → Ran

@@ -13,7 +13,7 @@ use Rattle.aft_model.specs.declared.reply.Reply.TheVariants as replies
 use Rattle.aft_model.specs.declared.script.Command.{Command}
 use Rattle.aft_model.specs.declared.script.Command.TheVariants as commands
 use Rattle.aft_histories.specs.Entries.{u, y, record_of, marker_of, record_pair, full_pair, done_pair}
-use Rattle.aft_runs.specs.Entries.{does, calls_for, fails, finds, misses, turn, answering}
+use Rattle.aft_runs.specs.Entries.{does, calls_for, deletes, fails, finds, misses, turn, answering}
 use Rattle.aft_runs.specs.Lines.{opening, boots, attempt, begins, puts, commits, only_answers, caller_of, releases}
 use Rattle.aft_runs.specs.Pinned.{older, newer}
 use Rattle.aft_runs.specs.Stores.{opens_marked}
@@ -87,6 +87,13 @@ delete = deletes_marker (by 1 1) (attempt 1 1 1) 1
 abbrev pub release : DoorEntry
 release = releases (by 1 1) (attempt 1 1 1) (u 1)
 
+abbrev pub fails_delete : DoorEntry
+fails_delete = fails (by 1 1) (caller_of (attempt 1 1 1)) (calls.Delete (marker_of 1))
+
+-- all of it where its delete of the marker fails
+abbrev pub failed_forget : List DoorEntry
+failed_forget = claim ∷ looks_at short ++ fails_delete ∷ release ∷ []
+
 -- all of it where it finds this marker and deletes it, and where it leaves it
 abbrev pub whole_forget : Pair → List DoorEntry
 whole_forget marker = claim ∷ looks_at marker ++ delete ∷ release ∷ []
@@ -138,3 +145,11 @@ of_newer = record_pair (commit_of newer) ∷ version_pairs newer
 -- nothing is done behind the opening
 abbrev pub forgets_nothing : Run
 forgets_nothing = over_marker short []
+
+-- what it held at first besides is the short marker
+abbrev pub held_at_first : List Pair
+held_at_first = record_pair (commit_of newer) ∷ short ∷ version_pairs newer
+
+-- the record of the second commit is deleted, which isn't forgotten
+abbrev pub loses_record : List DoorEntry
+loses_record = forgets_nothing.ran.trace.door ++ deletes (by 1 1) (record_of 3) ∷ []

@@ -13,7 +13,7 @@ use Rattle.aft_histories.specs.Entries.{x, y, record_pair}
 use Rattle.aft_records.specs.Commits.{ids_of}
 use Rattle.aft_runs.specs.Entries.{lists, turn, answering, says, closes}
 use Rattle.aft_runs.specs.Lines.{opening, opens, boots, attempt, begins, puts, fetches, commits}
-use Rattle.aft_runs.specs.Rounds.{posts, takes, learns}
+use Rattle.aft_runs.specs.Rounds.{announces, posts, takes, learns}
 use Rattle.aft_runs.specs.Words.{Writes, write, writes, a, b, commit_of}
 use Rattle.aft_runs.specs.Works.{Work, Run, run, by, nodes, at, asks}
 
@@ -106,3 +106,18 @@ full_again = rounds_at_full [] (
     ∷ learns_known
     ∷ rounds_up 21 11 [] (c_y ∷ [])
     ∷ learns 21 (by 1 12) 2 (c_y ∷ []) ∷ [])
+
+-- ---- in which order commits are announced
+
+-- the value of y is committed before that of x, and then both are announced in this order
+abbrev pub announces_in : List Commit → Run
+announces_in told = run (nodes 1) (
+    opens
+    ∷ boots 3 opening 1 1 []
+    ∷ begins 5 (by 1 1) (attempt 1 1 1) 2
+    ∷ puts 8 (by 1 2) (attempt 1 1 1) (write y b)
+    ∷ commits 8 (by 1 3) (attempt 1 1 1) of_y
+    ∷ begins 11 (by 1 4) (attempt 1 1 2) 1
+    ∷ puts 14 (by 1 5) (attempt 1 1 2) (write x a)
+    ∷ commits 14 (by 1 6) (attempt 1 1 2) of_x
+    ∷ announces 17 (by 1 7) 1 told [] ∷ [])

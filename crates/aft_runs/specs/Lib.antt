@@ -39,6 +39,7 @@ pub mod Finished
 pub mod Stores
 pub mod Forgets
 pub mod OrphanRounds
+pub mod TwoVersions
 pub mod Backups
 pub mod Upgrades
 pub mod Sessions
@@ -47,4 +48,6 @@ pub mod OpeningTurns
 pub mod CutOff
 pub mod AskedNodes
 pub mod NearReplies
+pub mod Scans
+pub mod Midway
 pub mod Every

@@ -40,6 +40,10 @@ fault_at_boot = refused_by (opens ∷ at_door failed_boot ∷ [])
 abbrev pub fault_with_boxes : Run
 fault_with_boxes = run (nodes 1) (opens ∷ at_door failed_boot ∷ [])
 
+-- the same, and the node has no history
+abbrev pub fault_without_nodes : Run
+fault_without_nodes = record fault_at_boot { ran = record fault_at_boot.ran { trace = record fault_at_boot.ran.trace { nodes = [] } } }
+
 -- the opening ends, and nothing follows: without threads, and with them
 abbrev pub nothing_follows_in_turns : Run
 nothing_follows_in_turns = run (nodes 1) (opens ∷ boots 3 opening 1 1 [] ∷ [])

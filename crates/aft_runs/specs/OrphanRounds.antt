@@ -6,16 +6,17 @@ use Rattle.aft_model.specs.Membership.{the_office}
 use Rattle.aft_model.specs.declared.caller.By.{By}
 use Rattle.aft_model.specs.declared.door.DoorAct.TheVariants as acts
 use Rattle.aft_model.specs.declared.door.DoorEntry.{DoorEntry}
+use Rattle.aft_model.specs.declared.node.NodeAct.TheVariants as turns
 use Rattle.aft_model.specs.declared.office.OfficeAct.TheVariants as desk
 use Rattle.aft_model.specs.declared.reply.Reply.{Reply}
 use Rattle.aft_model.specs.declared.reply.Reply.TheVariants as replies
 use Rattle.aft_model.specs.declared.script.Command.TheVariants as commands
 use Rattle.aft_histories.specs.Entries.{u, x, record_of, marker_of, record_pair, version_of}
-use Rattle.aft_runs.specs.Entries.{does, calls_for, deletes, fails, finds, lists, misses, closes}
+use Rattle.aft_runs.specs.Entries.{does, calls_for, deletes, fails, finds, lists, misses, turn, answering, closes}
 use Rattle.aft_runs.specs.Lines.{opening, opens, boots, attempt, begins, puts, doubts, settles, crashes}
 use Rattle.aft_runs.specs.Reads.{x_hi}
 use Rattle.aft_runs.specs.Words.{write, hi, commit_of, version_pairs}
-use Rattle.aft_runs.specs.Works.{Work, Run, run, by, nodes, asks}
+use Rattle.aft_runs.specs.Works.{Work, Run, run, ordered, step, by, at, nodes, nothing, asks}
 
 -- a round lists the versions of x, does this, and answers
 abbrev pub round : ℕ → By → List DoorEntry → Reply → Work
@@ -126,3 +127,26 @@ page_fails_and reply = doubts_then (crashes 11 (by 2 4) 1 1 ∷ record (asks (by
   door = fails (by 2 5) the_office (calls.Scan (codes "v/78/") [] 64) ∷ [];
   office = closes 13 (by 2 5) desk.Nothing reply ∷ [];
 } ∷ [])
+
+-- ---- names and bytes without a reading
+
+-- a round lists the version's name with bytes that are none, and a name of no version, and does this
+abbrev pub lists_unread : List DoorEntry → Reply → Run
+lists_unread done reply = doubts_then (crashes 11 (by 2 4) 1 1 ∷ record (round 12 (by 2 5) done reply) {
+  door = lists (by 2 5) the_office (codes "v/78/") (record { name = version_of x x_hi.id; bytes = codes "?" } ∷ record { name = codes "v/78/?"; bytes = codes "?" } ∷ []) ∷ done;
+} ∷ [])
+
+-- ---- beside others
+
+-- a round has claimed the UUID; a begin of it is answered so, and another round passes the version over, or claims the UUID too; and the first goes on
+abbrev pub meets_round : Reply → List DoorEntry → Run
+meets_round reply claimed = ordered (step 2 ∷ []) (run (nodes 1) (
+    opens
+    ∷ boots 3 opening 1 1 []
+    ∷ record (asks (by 2 1) (commands.Orphans x)) { door = lists (by 2 1) the_office (codes "v/78/") (version_pairs x_hi) ∷ claim (by 2 1) ∷ [] }
+    ∷ record (asks (by 1 2) (commands.Begin (u 1) 1)) { nodes = at 1 (turn 7 (by 1 2) (turns.Admit (attempt 1 1 1) (u 1)) ∷ answering 7 (by 1 2) (turns.Unadmit (attempt 1 1 1)) reply ∷ []) }
+    ∷ round 7 (by 3 3) claimed (counts 0 0 1 0)
+    ∷ record nothing {
+      door = no_record (by 2 1) ∷ no_marker (by 2 1) ∷ delete (by 2 1) ∷ release (by 2 1) ∷ [];
+      office = closes (12 + length claimed) (by 2 1) desk.Nothing (counts 1 0 0 0) ∷ [];
+    } ∷ []))

@@ -1,5 +1,5 @@
 -- Runs behind whose script a session asks lines of its own, and what it is told.
-use Rattle.std.specs.Prelude.{List, [], ◌∷◌, map}
+use Rattle.std.specs.Prelude.{ℕ, List, [], ◌∷◌, map}
 use Rattle.std.specs.List.{flat_map}
 use Rattle.aft_records.specs.declared.stored.Commit.{Commit}
 use Rattle.aft_lines.specs.FinishedText.{answers_of, line_of}
@@ -35,21 +35,32 @@ session = asked_for reading (
 
 -- ---- where its lines stand
 
--- the last line of a script commits, and a session asks a local round, which is done so
-abbrev pub commits_beside : List Work → Run
-commits_beside works = ordered (step 1 ∷ []) (asked_for (drops 11 (by 65 4) 1 [] ∷ []) (
+-- the last line of a script commits, a session asks this, and these works are done
+abbrev pub commits_beside : Work → List Work → Run
+commits_beside asked works = ordered (step 1 ∷ []) (asked_for (asked ∷ []) (
     opens
     ∷ boots 3 opening 1 1 []
     ∷ begins 5 (by 1 1) (attempt 1 1 1) 1
     ∷ puts 8 (by 1 2) (attempt 1 1 1) (write x hi)
     ∷ works))
 
--- behind the commit, and before it
-abbrev pub round_behind : List Work
-round_behind = commits 8 (by 1 3) (attempt 1 1 1) x_hi ∷ unasked (drops 11 (by 65 4) 1 []) ∷ []
+-- it asks a begin, which is done at this time, behind the commit and before it
+abbrev pub asks_begin : ℕ → Work
+asks_begin front = begins front (by 65 4) (attempt 1 1 2) 2
 
-abbrev pub round_before : List Work
-round_before = unasked (drops 8 (by 65 4) 1 []) ∷ commits 8 (by 1 3) (attempt 1 1 1) x_hi ∷ []
+abbrev pub begin_behind : Run
+begin_behind = commits_beside (asks_begin 11) (commits 8 (by 1 3) (attempt 1 1 1) x_hi ∷ unasked (asks_begin 11) ∷ [])
+
+abbrev pub begin_before : Run
+begin_before = commits_beside (asks_begin 8) (unasked (asks_begin 8) ∷ commits 11 (by 1 3) (attempt 1 1 1) x_hi ∷ [])
+
+-- it asks a local round
+abbrev pub round_behind : Run
+round_behind = commits_beside (drops 11 (by 65 4) 1 []) (commits 8 (by 1 3) (attempt 1 1 1) x_hi ∷ unasked (drops 11 (by 65 4) 1 []) ∷ [])
+
+-- it asks a begin alone, where there are no background rounds
+abbrev pub asks_alone : Run
+asks_alone = asking (begins 5 (by 65 1) (attempt 1 1 1) 1).lines (run (record (nodes 1) { rounds = 0 }) (opens ∷ boots 3 opening 1 1 [] ∷ unasked (begins 5 (by 65 1) (attempt 1 1 1) 1) ∷ []))
 
 -- ---- what it is told
 

@@ -87,3 +87,15 @@ nothing_named = run (nodes 1) (
     ∷ puts 11 (by 2 5) (attempt 1 1 2) (write y b)
     ∷ commits 11 (by 2 6) (attempt 1 1 2) both
     ∷ gets_blocked 15 (by 1 7) (attempt 1 1 1) y [] ∷ [])
+
+-- an attempt that no begin has admitted finds x absent, and then gets y, which was written together with x
+abbrev pub read_unadmitted : Run
+read_unadmitted = run (nodes 1) (
+    opens
+    ∷ boots 3 opening 1 1 []
+    ∷ gets_absent 5 (by 1 1) (attempt 1 1 9) x
+    ∷ begins 5 (by 2 2) (attempt 1 1 1) 1
+    ∷ puts 8 (by 2 3) (attempt 1 1 1) (write x a)
+    ∷ puts 8 (by 2 4) (attempt 1 1 1) (write y b)
+    ∷ commits 8 (by 2 5) (attempt 1 1 1) both
+    ∷ fetches 12 (by 1 6) (attempt 1 1 9) both.id (write y b) ∷ [])

@@ -1,5 +1,6 @@
 -- Runs of an upgrade over a store with one commit, and others, which do it otherwise.
 use Rattle.std.specs.Prelude.{◌≡◌, Bool, false, not, List, [], ◌∷◌, ◌++◌, filter, map}
+use Rattle.aft_keeper.specs.declared.keeper.KeeperCall.TheVariants as calls
 use Rattle.aft_keeper.specs.declared.keeper.Pair.{Pair}
 use Rattle.aft_lines.specs.Asked.{Ran}
 use Rattle.aft_lines.specs.RefusedTrace.{only_opens}
@@ -11,7 +12,7 @@ use Rattle.aft_model.specs.declared.caller.By.{By}
 use Rattle.aft_model.specs.declared.door.DoorAct.TheVariants as acts
 use Rattle.aft_model.specs.declared.door.DoorEntry.{DoorEntry}
 use Rattle.aft_histories.specs.Entries.{old_record, upgraded_pair}
-use Rattle.aft_runs.specs.Entries.{does, finds, stores}
+use Rattle.aft_runs.specs.Entries.{does, fails, finds, misses, stores}
 use Rattle.aft_runs.specs.Lines.{opening, opens_on}
 use Rattle.aft_runs.specs.Pinned.{older, newer}
 use Rattle.aft_runs.specs.Reads.{x_hi}
@@ -90,6 +91,21 @@ node_up_by who = upgrades old (gets old ∷ puts new ∷ does who (acts.Up 1 1) 
 abbrev pub a_line : By
 a_line = by 1 1
 
+-- ---- an upgrade that stops
+
+-- the get of the record fails, or shows none; or the put of it fails
+abbrev pub fails_get : Ran
+fails_get = upgrades old (fails opening the_office (calls.Get old.name) ∷ [])
+
+abbrev pub finds_no_record : Ran
+finds_no_record = upgrades old (misses opening the_office old.name ∷ [])
+
+abbrev pub fails_put : Pair → DoorEntry
+fails_put pair = fails opening the_office (calls.Put pair.name pair.bytes)
+
+abbrev pub put_failed : Ran
+put_failed = upgrades old (gets old ∷ fails_put new ∷ [])
+
 -- ---- two records
 
 -- a store with two old records is opened, and this is done
@@ -102,3 +118,7 @@ upgrades_two done = record {
 -- the record of a commit is upgraded
 abbrev pub upgrades_one : Writes → List DoorEntry
 upgrades_one wrote = gets (old_record (commit_of wrote)) ∷ puts (upgraded_pair (commit_of wrote)) ∷ []
+
+-- the put of the first one fails, and the office goes on
+abbrev pub goes_on : Ran
+goes_on = upgrades_two (gets (old_record (commit_of older)) ∷ fails_put (upgraded_pair (commit_of older)) ∷ upgrades_one newer)

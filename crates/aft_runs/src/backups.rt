@@ -1,10 +1,10 @@
 //! Runs in which the store is copied, and others, which are refused.
 
-ghost use Rattle.std.specs.Prelude.{[], ◌∷◌, ◌++◌};
+ghost use Rattle.std.specs.Prelude.{◌≡◌, [], ◌∷◌, ◌++◌};
 ghost use Rattle.aft_lines.specs.Headline.{Headline};
 ghost use Rattle.aft_model.specs.Honest.{Honest};
 ghost use Rattle.aft_lines.specs.LegalTrace.{LegalTrace};
-ghost use Rattle.aft_runs.specs.Backups.{beside_collection, commits_beside, copied, copies_store, copying_alone, copying_beside, fences, first_copier, gets, gets_versions, misses_and_ends, misses_and_stays, older_marked, retired_beside, second_copier, tells_missing};
+ghost use Rattle.aft_runs.specs.Backups.{beside_collection, commits_beside, copied, copied_in, copies_store, copying_alone, copying_beside, fences, first_copier, gets, gets_versions, misses_and_ends, misses_and_stays, newer_and_marker, older_marked, retired_beside, second_copier, tells_missing};
 ghost use Rattle.aft_runs.specs.LeftOut.{AnswersAll};
 ghost use Rattle.aft_runs.specs.Parts.{RefusedBy, Door, Courses, Causes};
 ghost use Rattle.aft_runs.specs.Pinned.{newer, older};
@@ -43,6 +43,7 @@ pub fn cuts_refused()
     ensures both { RefusedBy [] (copies_store [] (gets (version_pairs older ++ version_pairs newer)) (copied 2 0)) }
     ensures backwards { RefusedBy (Courses ∷ Causes ∷ []) (copies_store [] (gets (version_pairs newer ++ version_pairs older)) (copied 2 0)) }
     ensures unmarked { RefusedBy [] (copies_store older_marked (gets (version_pairs newer)) (copied 1 1)) }
+    ensures pairs { copied_in (copies_store older_marked (gets (version_pairs newer)) (copied 1 1)) ≡ newer_and_marker }
     ensures marked_too { RefusedBy (Courses ∷ Causes ∷ []) (copies_store older_marked (gets (version_pairs older ++ version_pairs newer)) (copied 2 1)) }
     ensures marker_not_counted { RefusedBy (Causes ∷ []) (copies_store older_marked (gets (version_pairs newer)) (copied 1 0)) }
     ensures missing { RefusedBy [] (copies_store [] misses_and_ends tells_missing) }

@@ -1,7 +1,7 @@
 //! Commits by the rules, and others, which are refused.
 
 ghost use Rattle.std.specs.Prelude.{◌≡◌, [], ◌∷◌};
-ghost use Rattle.aft_lines.specs.CommitCourse.{greatest_reads};
+ghost use Rattle.aft_model.specs.Origins.{greatest_reads};
 ghost use Rattle.aft_runs.specs.Commits.{finishes, lets_go, stores_by, version_first, record_first, answers_behind, finds_it, finds_nothing, answers_after, reads_clock, commits_at, records_as, of_reads, of_another, of_old, nine_reads, eight_ids};
 ghost use Rattle.aft_runs.specs.Reads.{x_hi};
 ghost use Rattle.aft_runs.specs.Parts.{RefusedBy, Door, Nodes, Courses, Clock, Causes};

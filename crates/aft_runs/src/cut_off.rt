@@ -4,7 +4,7 @@ ghost use Rattle.std.specs.Prelude.{[], ◌∷◌};
 ghost use Rattle.aft_model.specs.declared.node.NodeAct.TheVariants as turns;
 ghost use Rattle.aft_model.specs.declared.reply.Reply.TheVariants as replies;
 ghost use Rattle.aft_histories.specs.Entries.{record_of};
-ghost use Rattle.aft_runs.specs.CutOff.{at_node, begin_ends, begin_fenced_then, commit_fenced_then, crash_ends, doubts_behind, finds_damage, get_fails, get_misses, is_down, is_left, learns_stored, own, stopped};
+ghost use Rattle.aft_runs.specs.CutOff.{at_node, begin_ends, begin_fenced_then, commit_fenced_then, crash_ends, doubts_behind, finds_damage, get_fails, get_misses, is_down, is_left, learns_stored, only_answers, own, stopped};
 ghost use Rattle.aft_runs.specs.Parts.{RefusedBy, Courses, Causes};
 
 /// A line whose incarnation was shut out takes its attempt away, or stores what it recorded, as long as the node serves.
@@ -14,6 +14,8 @@ pub fn cut_off_refused()
     ensures only_answered { RefusedBy (Courses ∷ []) (begin_fenced_then (begin_ends turns.Nothing ∷ crash_ends ∷ [])) }
     ensures answered_when_down { RefusedBy [] (begin_fenced_then (crash_ends ∷ begin_ends turns.Nothing ∷ [])) }
     ensures stored { RefusedBy [] (commit_fenced_then (at_node (learns_stored ∷ is_left is_down ∷ []) ∷ stopped ∷ [])) }
+    ensures stored_and_left { RefusedBy [] (commit_fenced_then (at_node (learns_stored ∷ []) ∷ stopped ∷ only_answers ∷ [])) }
+    ensures stored_and_serving { RefusedBy (Courses ∷ []) (commit_fenced_then (at_node (learns_stored ∷ []) ∷ only_answers ∷ stopped ∷ [])) }
     ensures not_stored { RefusedBy (Courses ∷ []) (commit_fenced_then (at_node (is_left is_down ∷ []) ∷ stopped ∷ [])) }
     ensures no_memory { RefusedBy [] (commit_fenced_then (at_node (is_left replies.NoMemory ∷ []) ∷ stopped ∷ [])) }
 {}

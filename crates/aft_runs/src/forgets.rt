@@ -2,12 +2,13 @@
 
 ghost use Rattle.std.specs.Prelude.{[], ◌∷◌, ◌++◌, IsFalse, IsTrue};
 ghost use Rattle.aft_lines.specs.Headline.{Headline};
-ghost use Rattle.aft_lines.specs.KeepsIds.{keeps_ids};
+ghost use Rattle.aft_lines.specs.KeepsIds.{KeepsIds, all_keep_ids, keeps_ids};
+ghost use Rattle.aft_model.specs.History.{each_prefix};
 ghost use Rattle.aft_model.specs.Honest.{Honest};
 ghost use Rattle.aft_lines.specs.LegalTrace.{LegalTrace};
 ghost use Rattle.aft_model.specs.declared.reply.Reply.TheVariants as replies;
 ghost use Rattle.aft_histories.specs.Entries.{u};
-ghost use Rattle.aft_runs.specs.Forgets.{begins_anew, claim, commits_anew, delete, fails_look, forget, forgets, forgets_nothing, forgets_running, forgets_then, forgot, full, kept, leaves, looks_at, of_newer, release, short, tells_forgotten, whole_forget};
+ghost use Rattle.aft_runs.specs.Forgets.{begins_anew, claim, commits_anew, delete, failed_forget, fails_look, forget, forgets, forgets_nothing, forgets_running, forgets_then, forgot, full, held_at_first, kept, leaves, looks_at, loses_record, of_newer, release, short, tells_forgotten, whole_forget};
 ghost use Rattle.aft_runs.specs.LeftOut.{AnswersAll};
 ghost use Rattle.aft_runs.specs.Parts.{RefusedBy, Door, Nodes, Courses, Causes};
 ghost use Rattle.aft_runs.specs.Promises.{Breaks, OneCommitAnId};
@@ -28,6 +29,8 @@ pub fn forgets_refused()
     ensures not_claimed { RefusedBy (Door ∷ Courses ∷ []) (forget short (looks_at short ++ delete ∷ []) forgot) }
     ensures let_go { RefusedBy [] (forget short (claim ∷ fails_look ∷ release ∷ []) replies.StoreFault) }
     ensures not_let_go { RefusedBy (Courses ∷ []) (forget short (claim ∷ fails_look ∷ []) replies.StoreFault) }
+    ensures fault { RefusedBy [] (forget short failed_forget replies.StoreFault) }
+    ensures fault_forgot { RefusedBy (Causes ∷ []) (forget short failed_forget forgot) }
     ensures full_kept { RefusedBy [] (forget full (leaves full) kept) }
     ensures full_deleted { RefusedBy (Door ∷ Courses ∷ Causes ∷ []) (forget full (whole_forget full) forgot) }
     ensures running { RefusedBy [] (forgets_running (replies.Busy 1 1)) }
@@ -50,4 +53,6 @@ pub fn ids_kept()
     ensures marked { IsTrue (keeps_ids (short ∷ of_newer) forgets_nothing.ran.trace.door) }
     ensures marker_lost { IsFalse (keeps_ids of_newer forgets_nothing.ran.trace.door) }
     ensures record_lost { IsFalse (keeps_ids [] forgets.ran.trace.door) }
+    ensures at_each_moment { KeepsIds held_at_first forgets.ran.trace.door }
+    ensures not_behind_delete { IsFalse (each_prefix (all_keep_ids held_at_first) [] loses_record) }
 {}

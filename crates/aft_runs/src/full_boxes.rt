@@ -4,9 +4,9 @@ ghost use Rattle.std.specs.Prelude.{[], ◌∷◌};
 ghost use Rattle.aft_lines.specs.Headline.{Headline};
 ghost use Rattle.aft_model.specs.Honest.{Honest};
 ghost use Rattle.aft_lines.specs.LegalTrace.{LegalTrace};
-ghost use Rattle.aft_runs.specs.FullBoxes.{c_x, c_y, full_box, announced_both, rounds_at_full, full_again};
+ghost use Rattle.aft_runs.specs.FullBoxes.{announces_in, c_x, c_y, full_box, announced_both, rounds_at_full, full_again};
 ghost use Rattle.aft_runs.specs.LeftOut.{AnswersAll};
-ghost use Rattle.aft_runs.specs.Parts.{RefusedBy, Boxes, Posts, Causes};
+ghost use Rattle.aft_runs.specs.Parts.{RefusedBy, Nodes, Boxes, Posts, Causes};
 
 /// What a full box refuses is found by the manager.
 #[tactic(auto, unfolding(aft_histories::proofs::Stored::stored_forms))]
@@ -33,4 +33,11 @@ pub fn full_boxes_refused()
     ensures nothing_told { RefusedBy (Posts ∷ []) (announced_both 1 [] 1) }
     ensures none_noted { RefusedBy [] (rounds_at_full [] []) }
     ensures refused_noted { RefusedBy (Posts ∷ []) (rounds_at_full (c_y ∷ []) []) }
+{}
+
+/// Commits are announced in the order of their ids, in whichever they were stored.
+#[tactic(auto, unfolding(aft_histories::proofs::Stored::stored_forms))]
+pub fn announced_by_id()
+    ensures by_id { RefusedBy [] (announces_in (c_x ∷ c_y ∷ [])) }
+    ensures as_stored { RefusedBy (Nodes ∷ Posts ∷ []) (announces_in (c_y ∷ c_x ∷ [])) }
 {}

@@ -9,17 +9,21 @@ ghost use Rattle.aft_lines.specs.LegalTrace.{LegalTrace};
 ghost use Rattle.aft_runs.specs.Gets.{found_x_absent, gets_absent_again, gets_older, gets_x_again, gets_y};
 ghost use Rattle.aft_runs.specs.LeftOut.{AnswersAll};
 ghost use Rattle.aft_runs.specs.Parts.{RefusedBy, AsksLast};
-ghost use Rattle.aft_runs.specs.Sessions.{commits_beside, exchanges, kept_x, kept_y, later_commit, other_commit, read_commit, round_before, round_behind, session};
+ghost use Rattle.aft_runs.specs.Sessions.{asks_alone, begin_before, begin_behind, exchanges, kept_x, kept_y, later_commit, other_commit, read_commit, round_behind, session};
+ghost use Rattle.aft_runs.specs.Works.{threaded};
 
-/// What a session asks is done behind the script.
+/// What a session asks is done behind the script, and is of a transaction.
 #[tactic(auto, unfolding(aft_histories::proofs::Stored::stored_forms))]
 pub fn asked_behind()
     ensures legal { LegalTrace session.asked session.ran }
     ensures honest { Honest session.ran.trace.door }
     ensures promise { Headline session.ran.trace }
     ensures answers_all { AnswersAll session }
-    ensures behind { RefusedBy [] (commits_beside round_behind) }
-    ensures before { RefusedBy (AsksLast ∷ []) (commits_beside round_before) }
+    ensures behind { RefusedBy [] begin_behind }
+    ensures before { RefusedBy (AsksLast ∷ []) begin_before }
+    ensures no_round { RefusedBy (AsksLast ∷ []) round_behind }
+    ensures alone { RefusedBy [] asks_alone }
+    ensures with_threads { RefusedBy (AsksLast ∷ []) (threaded asks_alone) }
 {}
 
 /// What it is told is not below its floor, where that wrote the key.
