@@ -42,6 +42,15 @@ fn keeps_as_many_as_fit(rt: HostRuntime) -> Result<(), Fail> {
         Bytes::from_vec(b"c".to_vec(alloc)?),
     )?;
     assert!(rt; cache.look(&x).is_none());
+    let y = Spot {
+        key: Key::new(alloc, b"y")?,
+        id: TxnId::zero(),
+    };
+    assert!(rt;
+        cache
+            .look(&y)
+            .is_some_and(|value| value.as_slice() == b"c".as_slice())
+    );
     cache.clear();
     Ok(())
 }

@@ -1,7 +1,7 @@
 -- The keys of a known commit, where each id is known once.
 use Rattle.std.proofs.Common.{◌≡◌, ℕ, Bool, true, false, ◌&&◌, ◌||◌, not, ◌<◌, ◌+◌, suc, length, get_or, drop, drop-cons, add-one, List, [], ◌∷◌, ◌++◌, refl, sym, ap, subst, ◌∙◌, inl, inr}
 use Rattle.std.specs.Prelude.{IsTrue, IsFalse, Option, Some, None, is_some, filter, if◌then◌else◌}
-use Rattle.std.specs.List.{flat_map, list_all, list_any}
+use Rattle.std.specs.List.{flat_map, list_all}
 use Rattle.std.specs.Str.{bytes_eq}
 use Rattle.std.proofs.lemmas.Bool.{and_parts, true≢false, false_from_ne_true}
 use Rattle.std.proofs.lemmas.List.Folds.{flat_map-map}
@@ -13,11 +13,14 @@ use Rattle.aft_records.specs.declared.stored.Commit.{Commit}
 use Rattle.aft_model.proofs.Histories.{In, all_at}
 use Rattle.aft_model.proofs.Lists.{in_filter, map_in}
 use Rattle.aft_model.proofs.Ids.{same_ids, same_id-refl, id_lt-irrefl}
-use Rattle.aft_model.specs.Choice.{below_of, blockers, first_below, is_not_blocked, is_read_below, wrote_at}
+use Rattle.aft_model.proofs.Sights.{same_bytes}
+use Rattle.aft_model.specs.Attempts.{is_read}
+use Rattle.aft_model.specs.Choice.{below_of, blockers, first_below, is_not_blocked, is_read_below}
 use Rattle.aft_model.specs.declared.choice.Blocked.{Blocked}
+use Rattle.aft_model.specs.ReadSet.{HasEachKeyOnce, read_at}
 use Rattle.aft_model.specs.declared.read_set.ReadPair.{ReadPair}
 use Rattle.aft_meta.specs.KnownCommits.{keys_at}
-use Rattle.aft_select.specs.Choosing.{blocked_at, blocked_by, read_below}
+use Rattle.aft_select.specs.Choosing.{below, blocked_at, blocked_by, is_at, read_below}
 
 -- ---- each id is known once
 
@@ -28,37 +31,13 @@ apart id c known same below d among = false_from_ne_true (same_id id d.id) (λ a
     let is : c.id ≡ d.id = sym (same_ids id c.id same) ∙ same_ids id d.id again in
     true≢false (sym (subst (λ (i : TxnId). IsTrue (id_lt c.id i)) (sym is) less) ∙ id_lt-irrefl c.id))
 
-none_apart : (id : TxnId) (test : Commit → Bool) (known : List Commit) → ((d : Commit) → In d known → IsFalse (same_id id d.id)) → list_any (λ (d : Commit). same_id id d.id && test d) known ≡ false
-none_apart id test [] others = refl
-none_apart id test (d ∷ known) others = rw (others d (inl refl)) (none_apart id test known (λ e among. others e (inr among)))
-
 all_apart : (id : TxnId) (test : Commit → Bool) (known : List Commit) → ((d : Commit) → In d known → IsFalse (same_id id d.id)) → list_all (λ (d : Commit). not (same_id id d.id) || test d) known ≡ true
 all_apart id test [] others = refl
 all_apart id test (d ∷ known) others = rw (others d (inl refl)) (all_apart id test known (λ e among. others e (inr among)))
 
--- whether a key is among those of a commit, if it is known
-abbrev pub wrote_in : List ℕ → Option (List (List ℕ)) → Bool
-wrote_in key None = false
-wrote_in key (Some keys) = list_any (bytes_eq key) keys
-
-or_no : (b : Bool) → b || false ≡ b
-or_no true = refl
-or_no false = refl
-
 and_yes : (b : Bool) → b && true ≡ b
 and_yes true = refl
 and_yes false = refl
-
-pub wrote_at-keys : (key : List ℕ) (id : TxnId) (known : List Commit) → IsTrue (ids_ascend known) → wrote_at key id known ≡ wrote_in key (keys_at id known)
-wrote_at-keys key id [] up = refl
-wrote_at-keys key id (c ∷ known) up = cases (same_id id c.id) refl (wrote_at-keys key id known parts.1)
-  where
-    parts : IsTrue (list_all (id_lt c.id) (ids_of known)) × IsTrue (ids_ascend known)
-    parts = and_parts (list_all (id_lt c.id) (ids_of known)) (ids_ascend known) up
-
-    cases : (t : Bool) → same_id id c.id ≡ t → wrote_at key id known ≡ wrote_in key (keys_at id known) → (t && wrote key c) || wrote_at key id known ≡ wrote_in key (if t then Some c.keys else keys_at id known)
-    cases true same rest = rw (none_apart id (wrote key) known (apart id c known same parts.0)) (or_no (wrote key c))
-    cases false other rest = rest
 
 -- whether none of the keys of a commit was read below it, if it is known
 abbrev pub none_below_in : TxnId → List ReadPair → Option (List (List ℕ)) → Bool
@@ -77,7 +56,7 @@ is_not_blocked-keys id reads (c ∷ known) up = cases (same_id id c.id) refl (is
     cases true same rest = rw (all_apart id (λ (d : Commit). list_all (λ key. not (is_read_below key id reads)) d.keys) known (apart id c known same parts.0)) (and_yes _)
     cases false other rest = rest
 
-keys_at_known : (c : Commit) (known : List Commit) → IsTrue (ids_ascend known) → In c known → keys_at c.id known ≡ Some c.keys
+pub keys_at_known : (c : Commit) (known : List Commit) → IsTrue (ids_ascend known) → In c known → keys_at c.id known ≡ Some c.keys
 keys_at_known c [] up among = absurd among
 keys_at_known c (d ∷ known) up (inl here) = ap (λ t. if t then Some d.keys else keys_at c.id known) (subst (λ (e : Commit). IsTrue (same_id c.id e.id)) here (same_id-refl c.id)) ∙ ap (λ (e : Commit). Some e.keys) (sym here)
 keys_at_known c (d ∷ known) up (inr later) =
@@ -97,6 +76,46 @@ blockers-versions key reads known up =
     flat_map-map (λ id. blocked_at id reads known) (λ (c : Commit). c.id) (filter (wrote key) known)
     ∙ flat_map_same (λ (c : Commit). blocked_at c.id reads known) (λ c. first_below c.id reads c.keys) (filter (wrote key) known)
     (λ c among. ap (blocked_by c.id reads) (keys_at_known c known up (in_filter (wrote key) c known among).0))
+
+-- ---- reads, where each key stands once
+
+-- a key that wasn't read wasn't read below an id
+unread_below : (key : List ℕ) (id : TxnId) (reads : List ReadPair) → read_at key reads ≡ None → read_below key id reads ≡ None
+unread_below key id [] none = refl
+unread_below key id (pair ∷ reads) none = cases (bytes_eq key pair.key) none (unread_below key id reads)
+  where
+    cases : (s : Bool) → (if s then Some pair.id else read_at key reads) ≡ None → (read_at key reads ≡ None → read_below key id reads ≡ None) → (if s && id_lt pair.id id then Some pair.id else read_below key id reads) ≡ None
+    cases true none rest = cc
+    cases false none rest = rest none
+
+pub read_below-at : (key : List ℕ) (id : TxnId) (reads : List ReadPair) → HasEachKeyOnce reads → read_below key id reads ≡ below id (read_at key reads)
+read_below-at key id [] once = refl
+read_below-at key id (pair ∷ reads) once = cases (bytes_eq key pair.key) (id_lt pair.id id) refl refl (read_below-at key id reads once.1)
+  where
+    cases : (s t : Bool) → bytes_eq key pair.key ≡ s → id_lt pair.id id ≡ t → read_below key id reads ≡ below id (read_at key reads)
+        → (if s && t then Some pair.id else read_below key id reads) ≡ below id (if s then Some pair.id else read_at key reads)
+    cases true true same less rest = sym (ap (λ t. if t then Some pair.id else None) less)
+    cases true false same less rest = unread_below key id reads (subst (λ (k : List ℕ). read_at k reads ≡ None) (sym (same_bytes key pair.key same)) once.0) ∙ sym (ap (λ t. if t then Some pair.id else None) less)
+    cases false t other less rest = rest
+
+-- a key that wasn't read wasn't read at an id
+unread : (key : List ℕ) (id : TxnId) (reads : List ReadPair) → read_at key reads ≡ None → is_read (record { key = key; id = id }) reads ≡ false
+unread key id [] none = refl
+unread key id (pair ∷ reads) none = cases (bytes_eq key pair.key) none (unread key id reads)
+  where
+    cases : (s : Bool) → (if s then Some pair.id else read_at key reads) ≡ None → (read_at key reads ≡ None → is_read (record { key = key; id = id }) reads ≡ false) → (s && same_id id pair.id) || is_read (record { key = key; id = id }) reads ≡ false
+    cases true none rest = absurd cc
+    cases false none rest = rest none
+
+pub is_read-at : (key : List ℕ) (id : TxnId) (reads : List ReadPair) → HasEachKeyOnce reads → is_read (record { key = key; id = id }) reads ≡ is_at id (read_at key reads)
+is_read-at key id [] once = refl
+is_read-at key id (pair ∷ reads) once = cases (bytes_eq key pair.key) (same_id id pair.id) refl refl (is_read-at key id reads once.1)
+  where
+    cases : (s t : Bool) → bytes_eq key pair.key ≡ s → same_id id pair.id ≡ t → is_read (record { key = key; id = id }) reads ≡ is_at id (read_at key reads)
+        → (s && t) || is_read (record { key = key; id = id }) reads ≡ is_at id (if s then Some pair.id else read_at key reads)
+    cases true true same here rest = sym here
+    cases true false same here rest = unread key id reads (subst (λ (k : List ℕ). read_at k reads ≡ None) (sym (same_bytes key pair.key same)) once.0) ∙ sym here
+    cases false t other here rest = rest
 
 -- ---- reads below an id
 

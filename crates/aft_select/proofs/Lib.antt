@@ -1,5 +1,6 @@
 pub mod Walks
 pub mod Keys
-pub mod Floors
+pub mod Late
 pub mod Turns
 pub mod Repeats
+pub mod Named

@@ -1,5 +1,5 @@
 -- What the choice is where it is a version or absent, and that it repeats.
-use Rattle.std.proofs.Common.{◌≡◌, ℕ, Bool, true, false, ◌&&◌, ◌||◌, not, List, [], ◌∷◌, ◌++◌, refl, sym, ap, subst, ◌∙◌, ◌⊎◌, inl, inr}
+use Rattle.std.proofs.Common.{◌≡◌, ℕ, Bool, true, false, ◌&&◌, ◌||◌, not, List, [], ◌∷◌, ◌++◌, refl, sym, ap, subst, ◌∙◌, inl, inr}
 use Rattle.std.specs.Prelude.{IsTrue, IsFalse, Option, Some, None, filter, if◌then◌else◌}
 use Rattle.std.specs.List.{list_all, list_any}
 use Rattle.std.specs.Str.{bytes_eq}
@@ -9,7 +9,7 @@ use Rattle.aft_id.specs.declared.txn_id.TxnId.{TxnId}
 use Rattle.aft_records.specs.Commits.{greatest, has_id, versions}
 use Rattle.aft_records.specs.Superseded.{wrote}
 use Rattle.aft_records.specs.declared.stored.Commit.{Commit}
-use Rattle.aft_model.proofs.Choices.{absent_stays}
+use Rattle.aft_model.proofs.Choices.{absent_stays, version_there}
 use Rattle.aft_model.proofs.Greatest.{greatest_of_some, greatest_among}
 use Rattle.aft_model.proofs.Histories.{In, any_found, any_from, all_at}
 use Rattle.aft_model.proofs.Ids.{id_lt-or, same_id-refl, same_ids}
@@ -22,6 +22,8 @@ use Rattle.aft_model.specs.ReadSet.{HasEachKeyOnce, read_at}
 use Rattle.aft_model.specs.declared.choice.Blocked.{Blocked}
 use Rattle.aft_model.specs.declared.choice.Choice.TheVariants.{Absent, Version}
 use Rattle.aft_model.specs.declared.read_set.ReadPair.{ReadPair}
+use Rattle.aft_select.proofs.Keys.{is_read-at}
+use Rattle.aft_select.specs.Choosing.{is_at}
 
 -- ---- what is chosen
 
@@ -61,32 +63,13 @@ absent_atomic key reads known atomic unused is unread =
 
 -- ---- a repeated get
 
+same_at : (a b : TxnId) (o : Option TxnId) → IsTrue (is_at a o) → IsTrue (is_at b o) → a ≡ b
+same_at a b None first second = absurd (false≢true first)
+same_at a b (Some read) first second = same_ids a read first ∙ sym (same_ids b read second)
+
 -- a key that stands once in a read set has one id
-once_here : (key : List ℕ) (id : TxnId) (reads : List ReadPair) → IsTrue (is_read (record { key = key; id = id }) reads) → read_at key reads ≡ None → ⊥
-once_here key id [] read none = false≢true read
-once_here key id (pair ∷ reads) read none = cases (bytes_eq key pair.key) (same_id id pair.id) read none (once_here key id reads)
-  where
-    cases : (s t : Bool) → IsTrue ((s && t) || is_read (record { key = key; id = id }) reads) → (if s then Some pair.id else read_at key reads) ≡ None
-        → (IsTrue (is_read (record { key = key; id = id }) reads) → read_at key reads ≡ None → ⊥) → ⊥
-    cases true t read none rest = cc
-    cases false t read none rest = rest read none
-
 one_id : (key : List ℕ) (a b : TxnId) (reads : List ReadPair) → HasEachKeyOnce reads → IsTrue (is_read (record { key = key; id = a }) reads) → IsTrue (is_read (record { key = key; id = b }) reads) → a ≡ b
-one_id key a b [] once first second = absurd (false≢true first)
-one_id key a b (pair ∷ reads) once first second =
-    cases (or_cases (bytes_eq key pair.key && same_id a pair.id) (is_read (record { key = key; id = a }) reads) first) (or_cases (bytes_eq key pair.key && same_id b pair.id) (is_read (record { key = key; id = b }) reads) second) (one_id key a b reads once.1)
-  where
-    gone : (id : TxnId) (other : TxnId) → IsTrue (bytes_eq key pair.key && same_id other pair.id) → IsTrue (is_read (record { key = key; id = id }) reads) → ⊥
-    gone id other here later =
-        let same : key ≡ pair.key = same_bytes key pair.key (and_parts (bytes_eq key pair.key) (same_id other pair.id) here).0 in
-        once_here key id reads later (subst (λ (k : List ℕ). read_at k reads ≡ None) (sym same) once.0)
-
-    cases : IsTrue (bytes_eq key pair.key && same_id a pair.id) ⊎ IsTrue (is_read (record { key = key; id = a }) reads) → IsTrue (bytes_eq key pair.key && same_id b pair.id) ⊎ IsTrue (is_read (record { key = key; id = b }) reads)
-        → (IsTrue (is_read (record { key = key; id = a }) reads) → IsTrue (is_read (record { key = key; id = b }) reads) → a ≡ b) → a ≡ b
-    cases (inl one) (inl other) rest = same_ids a pair.id (and_parts (bytes_eq key pair.key) (same_id a pair.id) one).1 ∙ sym (same_ids b pair.id (and_parts (bytes_eq key pair.key) (same_id b pair.id) other).1)
-    cases (inl one) (inr other) rest = absurd (gone b a one other)
-    cases (inr one) (inl other) rest = absurd (gone a b other one)
-    cases (inr one) (inr other) rest = rest one other
+one_id key a b reads once first second = same_at a b (read_at key reads) (sym (is_read-at key a reads once) ∙ first) (sym (is_read-at key b reads once) ∙ second)
 
 module _ (key : List ℕ) (id : TxnId) (reads : List ReadPair) (known : List Commit) (atomic : Atomic reads known) (read : IsTrue (is_read (record { key = key; id = id }) reads)) where
   -- where the key is read at the id, it is read below each greater id
@@ -160,10 +143,7 @@ module _ (key : List ℕ) (id : TxnId) (reads : List ReadPair) (known : List Com
 
   again_greatest : IsTrue (wrote_at key id known) → greatest (fitting key reads known) ≡ Some id
   again_greatest written =
-      let found = any_found (λ (c : Commit). same_id id c.id && wrote key c) known written in
-      let both = and_parts (same_id id found.0.id) (wrote key found.0) found.2 in
-      let there = subst (λ (i : TxnId). In i (versions key known)) (sym (same_ids id found.0.id both.0)) (map_in (λ (c : Commit). c.id) found.0 (filter (wrote key) known) (filter_in (wrote key) found.0 known found.1 both.1)) in
-      let among = filter_in (λ i. fits key i reads known) id (versions key known) there (again_fits written) in
+      let among = filter_in (λ i. fits key i reads known) id (versions key known) (version_there key id known written) (again_fits written) in
       let top = greatest_of_some (fitting key reads known) id among in
       let fit = (in_filter (λ i. fits key i reads known) top.0 (versions key known) top.2).1 in
       elim (id_lt-or id top.0 (top.3 id among)) [

@@ -9,7 +9,7 @@ ghost use Rattle.aft_select.specs.Choosing.{blocked_at, listed};
 use crate::reads::read_below;
 use aft_id::{List, Memory, TxnId};
 use aft_meta::CommitSet;
-use aft_model::{Blocked, Choice, ReadPair};
+use aft_model::{Blocked, Choice, ReadSet};
 use aft_records::Key;
 use std::alloc::Global;
 
@@ -17,7 +17,7 @@ use std::alloc::Global;
 pub(crate) fn none_fits<M: CommitSet>(
     alloc: Global,
     meta: &M,
-    reads: &[ReadPair],
+    reads: &ReadSet,
     key: &Key,
 ) -> Result<Choice, Memory>
     ensures { IfOk result (λ chosen. chosen ≡ none_chosen (versions key.now (M.known meta.now)) (blockers key.now reads.now (M.known meta.now))) }
@@ -35,7 +35,7 @@ pub(crate) fn none_fits<M: CommitSet>(
 fn blockers<M: CommitSet>(
     alloc: Global,
     meta: &M,
-    reads: &[ReadPair],
+    reads: &ReadSet,
     versions: &[TxnId],
 ) -> Result<Vec<Blocked>, Memory>
     ensures { IfOk result (λ found. found.items ≡ flat_map (λ id. blocked_at id reads.now (M.known meta.now)) versions.now) }
@@ -50,11 +50,7 @@ fn blockers<M: CommitSet>(
 }
 
 /// What blocks a version.
-fn blocker<M: CommitSet>(
-    meta: &M,
-    reads: &[ReadPair],
-    id: &TxnId,
-) -> Result<Option<Blocked>, Memory>
+fn blocker<M: CommitSet>(meta: &M, reads: &ReadSet, id: &TxnId) -> Result<Option<Blocked>, Memory>
     ensures { IfOk result (λ blocked. listed blocked ≡ blocked_at id.now reads.now (M.known meta.now)) }
 {
     match meta.keys_of(*id) {
@@ -64,7 +60,7 @@ fn blocker<M: CommitSet>(
 }
 
 /// The first of some keys that was read below an id, and the id at which it was read.
-fn first_below(reads: &[ReadPair], keys: &[Key], id: &TxnId) -> Result<Option<Blocked>, Memory>
+fn first_below(reads: &ReadSet, keys: &[Key], id: &TxnId) -> Result<Option<Blocked>, Memory>
     ensures { IfOk result (λ blocked. listed blocked ≡ first_below id.now reads.now keys.now) }
 {
     for key in keys {

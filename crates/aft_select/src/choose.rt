@@ -10,13 +10,14 @@ use crate::blockers::none_fits;
 use crate::fitting::newest_fit;
 use aft_id::{Memory, TxnId};
 use aft_meta::CommitSet;
-use aft_model::{Choice, ReadPair, ReadSet};
+use aft_model::{Choice, ReadSet};
 use aft_records::Key;
 use std::alloc::Global;
 
 /// The version of a key that a transaction reads next to what it has read. `Absent` where it has read the key as
 /// absent; else the greatest version that fits; else `Absent` where no known commit wrote the key; else `NoneFits`,
-/// with each known version, ascending, and the first key of its commit that was read below it.
+/// with the known versions of which a key was read below, ascending, and the first such key of each. Where the reads are
+/// atomic these are all known versions. `Memory` comes only where memory ran out.
 pub fn select<M: CommitSet>(
     alloc: Global,
     meta: &M,
@@ -25,20 +26,21 @@ pub fn select<M: CommitSet>(
 ) -> Result<Choice, Memory>
     ensures { IfOk result (λ chosen. chosen ≡ choice key.now reads.now (M.known meta.now)) }
 {
-    let pairs = reads.pairs();
-    if is_read_absent(pairs, key) {
+    if is_read_absent(reads, key) {
         return Ok(Choice::Absent);
     }
-    match newest_fit(meta, pairs, key) {
+    match newest_fit(meta, reads, key) {
         Some(id) => Ok(Choice::Version(id)),
-        None => none_fits(alloc, meta, pairs, key),
+        None => none_fits(alloc, meta, reads, key),
     }
 }
 
 /// Whether a key was read as absent.
-fn is_read_absent(reads: &[ReadPair], key: &Key) -> bool
+fn is_read_absent(reads: &ReadSet, key: &Key) -> bool
     ensures { result ≡ is_read (record { key = key.now; id = zero_id }) reads.now }
 {
-    let zero = TxnId::zero();
-    reads.iter().any(|pair| *key == pair.key && zero == pair.id)
+    match reads.at(key) {
+        Some(id) => TxnId::zero() == id,
+        None => false,
+    }
 }

@@ -11,5 +11,6 @@ mod tests;
 
 pub use choose::select;
 pub use laws::{
-    absent_keeps_reads_atomic, choice_repeats, chosen_keeps_reads_atomic, read_commit_never_blocked,
+    absent_keeps_reads_atomic, choice_repeats, chosen_keeps_reads_atomic, none_fits_names_each,
+    read_commit_never_blocked,
 };
