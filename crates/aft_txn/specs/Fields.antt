@@ -1,14 +1,14 @@
 -- What a table keeps of its fields.
-use Rattle.std.specs.Prelude.{IsTrue, List, Some, count_by, map, nat_le, sum_by, unwrap_or, ℕ, ◌≡◌}
-use Rattle.std.specs.List.{list_all}
+use Rattle.std.specs.Prelude.{List, Some, count_by, map, option_map, sum_by, unwrap_or, ℕ, ◌≡◌}
 use Rattle.std.specs.Map.{lookup}
+use Rattle.std.specs.Str.{bytes_eq}
 use Rattle.aft_id.specs.TxnId.{same_id}
 use Rattle.aft_id.specs.declared.txn_id.TxnId.{TxnId}
 use Rattle.aft_model.specs.declared.read_set.ReadPair.{ReadPair}
 use Rattle.aft_model.specs.Attempts.{Row}
 use Rattle.aft_txn.specs.declared.txn.Txn.{Txn}
 use Rattle.aft_txn.specs.Buffer.{as_write}
-use Rattle.aft_txn.specs.Rows.{state_in}
+use Rattle.aft_txn.specs.Rows.{IsLegal, row_of_uuid, state_in}
 
 -- an attempt of a number as a row
 abbrev pub as_row : ℕ → Txn → Row
@@ -41,8 +41,9 @@ pin_count id pins = unwrap_or (lookup (same_id id) pins) 0
 pub record AreNeeded (pins : List (TxnId × ℕ)) : Type 0 where
   pub none : (id : TxnId) → lookup (same_id id) pins ≡ Some 0 → ⊥
 
--- no number is above that of the attempts that were begun, and each id that was read has its count, and no other id has one
-pub record IsTable (begun : ℕ) (attempts : List (ℕ × Txn)) (pins : List (TxnId × ℕ)) : Type 0 where
-  pub numbered : IsTrue (list_all (λ entry. nat_le entry.0 begun) attempts)
+-- the rows are legal, each UUID has the number of its row, each id that was read has its count, and no other UUID or id has one
+pub record IsTable (begun : ℕ) (attempts : List (ℕ × Txn)) (numbers : List (List ℕ × ℕ)) (pins : List (TxnId × ℕ)) : Type 0 where
+  pub legal : IsLegal (record { begun = begun; rows = as_rows attempts })
+  pub numbered : (uuid : List ℕ) → lookup (bytes_eq uuid) numbers ≡ option_map (λ row. row.number) (row_of_uuid uuid (as_rows attempts))
   pub counted : (id : TxnId) → pin_count id pins ≡ reads_at id attempts
   pub needed : AreNeeded pins

@@ -1,14 +1,17 @@
 //! The table of attempts.
 
-ghost use Rattle.std.specs.Prelude.{◌≡◌, ◌<◌, ◌≤◌, ◌+◌, ◌-◌, ◌^◌, ◌++◌, [], ◌∷◌, None, Some, IfErr, IfOk, IfSome, IsSome, IsTrue, OnErr, OnOk, is_none, map, nat_le, nat_lt, option_and_then, option_copied, option_map};
+ghost use Rattle.std.specs.Prelude.{◌≡◌, ◌<◌, ◌≤◌, ◌+◌, ◌-◌, ◌^◌, ◌++◌, ℕ, List, [], ◌∷◌, None, Some, IfErr, IfOk, IfSome, IsSome, IsTrue, OnErr, OnOk, if◌then◌else◌, is_none, length, map, nat_eq, nat_le, nat_lt, option_and_then, option_copied, option_map};
 ghost use Rattle.std.specs.List.{list_all};
+ghost use Rattle.std.specs.Map.{lookup};
 ghost use Rattle.std.specs.Option.{ForSome};
+ghost use Rattle.std.specs.Str.{bytes_eq};
+ghost use Rattle.aft_fields.specs.Order.{ascend};
 ghost use Rattle.aft_id.specs.TxnId.{id_lt};
 ghost use Rattle.aft_model.specs.Attempts.{buffered, is_committing, is_in_doubt, is_opening};
 ghost use Rattle.aft_model.specs.ReadSet.{read_at};
 ghost use Rattle.aft_txn.specs.Buffer.{as_write};
 ghost use Rattle.aft_txn.specs.Refusals.{IsRefused, MayBeRefused, leave_refusal, put_refusal, read_refusal, refusal, start_refusal, start_time};
-ghost use Rattle.aft_txn.specs.Rows.{changed, ended_read, holds_at, in_doubt, is_pinned_in, opened, row_at, row_of_uuid, settled, state_at, told, with_noted, with_put, with_state, without_row};
+ghost use Rattle.aft_txn.specs.Rows.{IsLegal, changed, ended_read, holds_at, id_in, in_doubt, is_own, is_pinned_in, opened, row_at, row_of_uuid, settled, state_at, told, with_noted, with_put, with_state, without_row};
 
 use crate::buffer::{Write, value_of};
 use crate::pins::{Pins, unpin_all};
@@ -22,13 +25,20 @@ use std::alloc::Global;
 use std::marker::Model;
 use uuid::Uuid;
 
+/// The attempts by their numbers.
+type Attempts = IndexMap<u64, Txn>;
+
+/// The number of the attempt of each UUID.
+type Numbers = IndexMap<Uuid, u64>;
+
 /// The attempts of an incarnation. Contracts see how many were begun, and those that are there as rows, in order of
 /// number.
 #[derive(Debug, Drop)]
 pub struct TxnTable {
     alloc: Global,
     begun: u64,
-    attempts: IndexMap<u64, Txn>,
+    attempts: Attempts,
+    numbers: Numbers,
     pins: Pins,
 }
 
@@ -40,7 +50,7 @@ impl Model for TxnTable {
 
     ghost view = { λ t. record { begun = t.begun; rows = as_rows t.attempts.entries } };
 
-    ghost invariant = { λ t. IsTable t.begun t.attempts.entries t.pins.entries };
+    ghost invariant = { λ t. IsTable t.begun t.attempts.entries t.numbers.entries t.pins.entries };
 }
 
 impl TxnTable {
@@ -52,21 +62,20 @@ impl TxnTable {
             alloc,
             begun: 0,
             attempts: IndexMap::new(alloc),
+            numbers: IndexMap::new(alloc),
             pins: IndexMap::new(alloc),
         }
     }
 
-    /// The number and the state of the attempt of a UUID. Takes no memory.
+    /// The number and the state of the attempt of a UUID. Takes no memory. The call also tells a proof what each table
+    /// keeps of its rows.
     pub fn find(&self, uuid: Uuid) -> Option<(u64, State)>
-        ensures { result ≡ option_and_then (λ row. option_map (λ state. (row.number, state)) (told row.state)) (row_of_uuid uuid self.now.rows) }
+        ensures legal { IsLegal self.now }
+        ensures found { result ≡ option_and_then (λ row. option_map (λ state. (row.number, state)) (told row.state)) (row_of_uuid uuid self.now.rows) }
     {
-        for place in 0..self.attempts.len() {
-            let (number, txn) = self.attempts.get_index(place)?;
-            if uuid == txn.uuid {
-                return Some((*number, txn.state));
-            }
-        }
-        None
+        let number = *self.numbers.get(&uuid)?;
+        let txn = self.attempts.get(&number)?;
+        Some((number, txn.state))
     }
 
     /// The state of the attempt of a number. Takes no memory.
@@ -111,10 +120,12 @@ impl TxnTable {
         Some(self.attempts.get(&number)?.open)
     }
 
-    /// What an attempt has buffered, copied, in key order.
+    /// What an attempt has buffered, copied, in key order: at most 32 writes, each key once.
     pub fn writes(&self, number: u64) -> Result<List<Write>, Memory>
         requires { IsSome (row_at number self.now.rows) }
-        ensures { IfOk result (λ writes. option_map (λ row. row.writes) (row_at number self.now.rows) ≡ Some (map as_write writes)) }
+        ensures in_order { IfOk result (λ writes. IsTrue (ascend (map (λ write. write.key) writes))) }
+        ensures few { IfOk result (λ writes. length writes ≤ 32) }
+        ensures writes { IfOk result (λ writes. option_map (λ row. row.writes) (row_at number self.now.rows) ≡ Some (map as_write writes)) }
     {
         let txn = self.attempts.get(&number).unwrap();
         Ok(List::from_vec(Vec::from_clones(self.alloc, txn.writes.as_slice())?))
@@ -129,9 +140,11 @@ impl TxnTable {
         ensures ok { OnOk result (self.new ≡ record { begun = self.old.begun + 1; rows = self.old.rows ++ opened (self.old.begun + 1) uuid ∷ [] }) }
         ensures err { OnErr result (self.new ≡ self.old) }
         ensures memory { IfErr result (λ fault. fault ≡ TxnFault.Memory) }
+        ensures legal { IsLegal self.new }
     {
         let number = self.begun + 1;
-        self.attempts.insert(number, Txn::new(self.alloc, uuid))?;
+        let txn = Txn::new(self.alloc, uuid);
+        add(&mut self.attempts, &mut self.numbers, number, txn)?;
         self.begun = number;
         Ok(number)
     }
@@ -196,6 +209,7 @@ impl TxnTable {
     pub fn start_commit(&mut self, number: u64, now: u64, floor: u64) -> Result<TxnId, TxnFault>
         ensures refused { IsRefused (refusal (start_refusal now floor) (row_at number self.old.rows)) result }
         ensures id { IfOk result (λ id. IfSome (row_at number self.old.rows) (λ row. id ≡ record { time = start_time now floor row.pairs; uuid = row.uuid })) }
+        ensures own { IfOk result (λ id. ForSome (row_at number self.old.rows) (λ row. IsTrue (is_own row.uuid (Some id)))) }
         ensures above { IfOk result (λ id. IfSome (row_at number self.old.rows) (λ row. IsTrue (list_all (λ pair. id_lt pair.id id) row.pairs))) }
         ensures ok { IfOk result (λ id. self.new ≡ record self.old { rows = changed number (with_state (State.Committing id)) self.old.rows }) }
         ensures err { OnErr result (self.new ≡ self.old) }
@@ -242,6 +256,7 @@ impl TxnTable {
         ensures { self.new ≡ record self.old { rows = without_row number self.old.rows } }
     {
         if let Some(txn) = self.attempts.shift_remove(&number) {
+            self.numbers.swap_remove(&txn.uuid);
             unpin_all(&mut self.pins, txn.reads.pairs());
         }
     }
@@ -250,6 +265,7 @@ impl TxnTable {
     fn next_id(&self, number: u64, now: u64, floor: u64) -> Result<TxnId, TxnFault>
         ensures refused { IsRefused (refusal (start_refusal now floor) (row_at number self.now.rows)) result }
         ensures id { IfOk result (λ id. IfSome (row_at number self.now.rows) (λ row. id ≡ record { time = start_time now floor row.pairs; uuid = row.uuid })) }
+        ensures own { IfOk result (λ id. ForSome (row_at number self.now.rows) (λ row. IsTrue (is_own row.uuid (Some id)))) }
     {
         match self.attempts.get(&number) {
             Some(txn) => txn.next_id(now, floor),
@@ -259,6 +275,7 @@ impl TxnTable {
 
     /// An attempt commits under an id.
     fn fix(&mut self, number: u64, id: &TxnId)
+        requires { ForSome (row_at number self.old.rows) (λ row. IsTrue (is_own row.uuid (Some id.now))) }
         ensures { self.new ≡ record self.old { rows = changed number (with_state (State.Committing id.now)) self.old.rows } }
     {
         self.set_state(number, State::Committing(*id));
@@ -276,10 +293,31 @@ impl TxnTable {
 
     /// An attempt is in another state.
     fn set_state(&mut self, number: u64, state: State)
+        requires { ForSome (row_at number self.old.rows) (λ row. IsTrue (is_own row.uuid (id_in state))) }
         ensures { self.new ≡ record self.old { rows = changed number (with_state state) self.old.rows } }
     {
         if let Some(txn) = self.attempts.get_mut(&number) {
             txn.set_state(state);
+        }
+    }
+}
+
+/// Adds an attempt of a new number and a new UUID. Where memory runs out nothing changes.
+fn add(attempts: &mut Attempts, numbers: &mut Numbers, number: u64, txn: Txn) -> Result<(), Memory>
+    requires new { lookup (nat_eq number) attempts.old.entries ≡ None }
+    requires unused { lookup (bytes_eq txn.uuid) numbers.old.entries ≡ None }
+    ensures attempts { OnOk result (attempts.new.entries ≡ attempts.old.entries ++ (number, txn) ∷ []) }
+    ensures numbers { OnOk result ((u : List ℕ) → lookup (bytes_eq u) numbers.new.entries ≡ (if bytes_eq txn.uuid u then Some number else lookup (bytes_eq u) numbers.old.entries)) }
+    ensures same_attempts { OnErr result (attempts.new.entries ≡ attempts.old.entries) }
+    ensures same_numbers { OnErr result ((u : List ℕ) → lookup (bytes_eq u) numbers.new.entries ≡ lookup (bytes_eq u) numbers.old.entries) }
+{
+    let uuid = txn.uuid;
+    numbers.insert(uuid, number)?;
+    match attempts.insert(number, txn) {
+        Ok(_) => Ok(()),
+        Err(_) => {
+            numbers.swap_remove(&uuid);
+            Err(Memory)
         }
     }
 }

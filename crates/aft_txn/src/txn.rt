@@ -1,13 +1,13 @@
 //! One attempt.
 
-ghost use Rattle.std.specs.Prelude.{◌≡◌, ◌<◌, ◌≤◌, ◌+◌, ◌-◌, ◌^◌, [], ℕ, Err, IfOk, IfSome, None, OnErr, OnOk, if◌then◌else◌, min};
+ghost use Rattle.std.specs.Prelude.{◌≡◌, ◌<◌, ◌≤◌, ◌+◌, ◌-◌, ◌^◌, [], ℕ, Err, IfOk, IfSome, IsTrue, None, Some, OnErr, OnOk, if◌then◌else◌, min};
 ghost use Rattle.aft_id.specs.declared.txn_id.TxnId.{TxnId as Id};
 ghost use Rattle.aft_model.specs.Attempts.{is_running};
 ghost use Rattle.aft_model.specs.NodeRules.{greatest_of, times_read};
 ghost use Rattle.aft_model.specs.ReadSet.{read_at};
 ghost use Rattle.aft_txn.specs.Fields.{AreNeeded, as_row, pairs_at, pin_count};
 ghost use Rattle.aft_txn.specs.Refusals.{IsRefused, MayBeRefused, leave_refusal, put_refusal, read_refusal, refused_row, start_refusal, start_time};
-ghost use Rattle.aft_txn.specs.Rows.{ended_read, in_doubt, opened, settled, with_noted, with_put, with_state};
+ghost use Rattle.aft_txn.specs.Rows.{ended_read, in_doubt, is_own, opened, settled, with_noted, with_put, with_state};
 
 use crate::buffer::{Write, put, value_of};
 use crate::pins::{Pins, note};
@@ -133,7 +133,7 @@ impl Txn {
         fetch: bool,
     ) -> Result<(), TxnFault>
         requires same { IfSome (read_at key self.old.reads) (λ read. read ≡ id) }
-        requires open { self.old.open < 2 ^ 63 }
+        requires left { self.old.open < 2 ^ 63 }
         requires needed { AreNeeded pins.old.entries }
         ensures refused { MayBeRefused (refused_row read_refusal (as_row 0 self.old)) result }
         ensures ok { OnOk result ((n : ℕ) → as_row n self.new ≡ with_noted key id fetch (as_row n self.old)) }
@@ -168,6 +168,7 @@ impl Txn {
     pub(crate) fn next_id(&self, now: u64, floor: u64) -> Result<TxnId, TxnFault>
         ensures refused { IsRefused (refused_row (start_refusal now floor) (as_row 0 self.now)) result }
         ensures id { IfOk result (λ id. id ≡ record { time = start_time now floor self.now.reads; uuid = self.now.uuid }) }
+        ensures own { IfOk result (λ id. IsTrue (is_own self.now.uuid (Some id))) }
     {
         if !self.runs() {
             return Err(TxnFault::Committing);

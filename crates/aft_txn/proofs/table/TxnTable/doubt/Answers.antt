@@ -1,14 +1,16 @@
-use Rattle.std.proofs.Common.{List, ap, sym}
+use Rattle.std.proofs.Common.{List, ap, refl, sym}
 use Rattle.aft_model.specs.Attempts.{Row}
+use Rattle.aft_txn.specs.Fields.{as_row}
 use Rattle.aft_txn.specs.Rows.{Table, in_doubt}
-use Rattle.aft_txn.proofs.Tables.{changed-none, changed-set, kept-same}
+use Rattle.aft_txn.proofs.Tables.{changed-none, changed-set, kept-same, kept_by}
+use Rattle.aft_txn.proofs.Sound.{doubted-sound}
 use Rattle.aft_txn.proofs.table.TxnTable.doubt.Goals as goal
 use Rattle.aft_txn.proofs.table.TxnTable.doubt.Goals.{in-Some, in_default}
 
 pub invariant_of-self : goal.invariant_of-self
 invariant_of-self c =
     elim c.match-get_mut.branch [
-      | in-Some w ↦ (let new = w.doubt.new.self in rw (w.self-inside-is, (c.get_mut.follows.holds new).0) (kept-same c.self.invariant c.args.number w.in-Some.txn.now new (sym w.in-Some.ensures.value) w.doubt.ensures.reads))
+      | in-Some w ↦ (let new = w.doubt.new.self in rw (w.self-inside-is, (c.get_mut.follows.holds new).0) (kept-same c.self.invariant c.args.number w.in-Some.txn.now new (sym w.in-Some.ensures.value) (kept_by c.args.number w.in-Some.txn.now new in_doubt (w.doubt.ensures.row c.args.number) refl (doubted-sound (as_row c.args.number w.in-Some.txn.now))) w.doubt.ensures.reads))
       | in_default w ↦ rw (w.self-inside-is, c.get_mut.follows.holds-at-none) c.self.invariant
     ]
 

@@ -12,7 +12,7 @@ unpin_all-requires-clause-counted c q = rw c.pairs.ensures.value (counted_in c.s
 pub invariant_of-self : goal.invariant_of-self
 invariant_of-self c =
     rw c.shift_remove.ensures.entries
-    (kept-removed c.self.invariant c.args.number c.in-Some.txn c.unpin_all.new.pins.entries (sym c.in-Some.ensures.value) c.unpin_all.ensures.needed (λ q. c.unpin_all.ensures.less q ∙ ap (λ (pairs : List ReadPair). pin_count q c.self.inside.pins.entries - pairs_at q pairs) c.pairs.ensures.value))
+    (kept-removed c.self.invariant c.args.number c.in-Some.txn c.swap_remove.new.self.entries c.unpin_all.new.pins.entries (sym c.in-Some.ensures.value) (λ u. c.swap_remove.ensures.updates.0 u) c.unpin_all.ensures.needed (λ q. c.unpin_all.ensures.less q ∙ ap (λ (pairs : List ReadPair). pin_count q c.self.inside.pins.entries - pairs_at q pairs) c.pairs.ensures.value))
 
 pub returns-in-Some : goal.returns-in-Some
 returns-in-Some c =

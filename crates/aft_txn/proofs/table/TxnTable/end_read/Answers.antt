@@ -1,9 +1,9 @@
-use Rattle.std.proofs.Common.{◌≡◌, ◌∙◌, List, Some, ap, sym, arith}
+use Rattle.std.proofs.Common.{◌≡◌, ◌∙◌, List, Some, ap, refl, sym, arith}
 use Rattle.aft_model.specs.Attempts.{Row}
 use Rattle.std.proofs.lemmas.Bool.Decides.{nat_tests}
 use Rattle.aft_txn.specs.Fields.{as_row}
 use Rattle.aft_txn.specs.Rows.{Table, ended_read, row_at}
-use Rattle.aft_txn.proofs.Tables.{changed-none, changed-set, kept-same, row-some}
+use Rattle.aft_txn.proofs.Tables.{changed-none, changed-set, kept-same, kept_by, row-some}
 use Rattle.aft_txn.proofs.table.TxnTable.end_read.Goals as goal
 use Rattle.aft_txn.proofs.table.TxnTable.end_read.Goals.{in-Some, in_default}
 
@@ -17,7 +17,7 @@ end_read-requires c =
 pub invariant_of-self : goal.invariant_of-self
 invariant_of-self c =
     elim c.match-get_mut.branch [
-      | in-Some w ↦ (let new = w.end_read.new.self in rw (w.self-inside-is, (c.get_mut.follows.holds new).0) (kept-same c.self.invariant c.args.number w.in-Some.txn.now new (sym w.in-Some.ensures.value) w.end_read.ensures.reads))
+      | in-Some w ↦ (let new = w.end_read.new.self in rw (w.self-inside-is, (c.get_mut.follows.holds new).0) (kept-same c.self.invariant c.args.number w.in-Some.txn.now new (sym w.in-Some.ensures.value) (kept_by c.args.number w.in-Some.txn.now new ended_read (w.end_read.ensures.row c.args.number) refl (λ sound. sound)) w.end_read.ensures.reads))
       | in_default w ↦ rw (w.self-inside-is, c.get_mut.follows.holds-at-none) c.self.invariant
     ]
 

@@ -1,22 +1,25 @@
-use Rattle.std.proofs.Common.{◌≡◌, Some, ap, refl, sym, ◌∙◌}
+use Rattle.std.proofs.Common.{◌≡◌, None, Some, ap, refl, sym, ◌∙◌}
 use Rattle.aft_txn.specs.Fields.{as_row}
 use Rattle.aft_txn.specs.Rows.{Table, row_of_uuid}
-use Rattle.aft_txn.proofs.Tables.{told-in, uuid-drop}
+use Rattle.aft_txn.proofs.Tables.{numbered-row, row-none, row-some, told-in, unnumbered}
 use Rattle.aft_txn.proofs.table.TxnTable.find.Goals as goal
 
-pub returns-then-eq : goal.returns-then-eq
-returns-then-eq c =
-    let number = c.in_ok-number.number.now in
-    let txn = c.in_ok-number.txn.now in
-    let step = uuid-drop c.args.uuid c.self.inside.attempts.entries c.loop-place.place (number, txn) (sym c.in_ok-number.ensures.entry) in
-    let met = rw (sym c.eq.ensures ∙ c.if-eq.true) at step in
-    let some : row_of_uuid c.args.uuid c.args.self.now.rows ≡ Some (as_row number txn) = ap (λ (t : Table). row_of_uuid c.args.uuid t.rows) (sym c.self.view_is) ∙ sym c.loop-place.invariant ∙ met in
-    rw (some, told-in txn.state (as_row number txn).writes) refl
+pub returns-in_err-number-clause-found : goal.returns-in_err-number-clause-found
+returns-in_err-number-clause-found c =
+    let none : row_of_uuid c.args.uuid c.args.self.now.rows ≡ None = ap (λ (t : Table). row_of_uuid c.args.uuid t.rows) (sym c.self.view_is) ∙ unnumbered c.self.invariant c.args.uuid (sym c.in_err-number.ensures.value) in
+    rw (c.from_residual.ensures, none) refl
 
-pub loop-place-preserved : goal.loop-place-preserved
-loop-place-preserved c =
-    let number = c.in_ok-number.number.now in
-    let txn = c.in_ok-number.txn.now in
-    let step = uuid-drop c.args.uuid c.self.inside.attempts.entries c.loop-place.place (number, txn) (sym c.in_ok-number.ensures.entry) in
-    let met = rw (sym c.eq.ensures ∙ c.if-eq.false) at step in
-    sym met ∙ c.loop-place.invariant
+pub returns-in_err-txn-clause-found : goal.returns-in_err-txn-clause-found
+returns-in_err-txn-clause-found c =
+    let number = c.in_ok-number.field-0.now in
+    let none : row_of_uuid c.args.uuid c.args.self.now.rows ≡ None =
+    ap (λ (t : Table). row_of_uuid c.args.uuid t.rows) (sym c.self.view_is) ∙ numbered-row c.self.invariant c.args.uuid number (sym c.in_ok-number.ensures.value) ∙ row-none number c.self.inside.attempts.entries (sym c.in_err-txn.ensures.value) in
+    rw (c.from_residual-in_err-txn.ensures, none) refl
+
+pub returns-clause-found : goal.returns-clause-found
+returns-clause-found c =
+    let number = c.in_ok-number.field-0.now in
+    let txn = c.in_ok-txn.txn.now in
+    let some : row_of_uuid c.args.uuid c.args.self.now.rows ≡ Some (as_row number txn) =
+    ap (λ (t : Table). row_of_uuid c.args.uuid t.rows) (sym c.self.view_is) ∙ numbered-row c.self.invariant c.args.uuid number (sym c.in_ok-number.ensures.value) ∙ row-some number c.self.inside.attempts.entries txn (sym c.in_ok-txn.ensures.value) in
+    rw (some, told-in txn.state (as_row number txn).writes) refl

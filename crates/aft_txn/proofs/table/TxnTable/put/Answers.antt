@@ -3,6 +3,7 @@ use Rattle.std.proofs.lemmas.Result.{on_err_weaker, on_ok_weaker}
 use Rattle.aft_model.specs.Attempts.{Row}
 use Rattle.aft_txn.specs.Fields.{as_row}
 use Rattle.aft_txn.specs.Rows.{Table, row_at, with_put}
+use Rattle.aft_txn.proofs.Sound.{put-keeps}
 use Rattle.aft_txn.proofs.Tables.{changed-id, changed-set, kept-same, row-none, row-some}
 use Rattle.aft_txn.proofs.table.TxnTable.put.Goals as goal
 use Rattle.aft_txn.proofs.table.TxnTable.put.Goals.{in-Some, in-None}
@@ -10,7 +11,8 @@ use Rattle.aft_txn.proofs.table.TxnTable.put.Goals.{in-Some, in-None}
 pub invariant_of-self : goal.invariant_of-self
 invariant_of-self c =
     elim c.match-get_mut.branch [
-      | in-Some w ↦ rw (w.self-inside-is, (c.get_mut.follows.holds w.put.new.self).0) (kept-same c.self.invariant c.args.number w.in-Some.txn.now w.put.new.self (sym w.in-Some.ensures.value) w.put.ensures.reads)
+      | in-Some w ↦ rw (w.self-inside-is, (c.get_mut.follows.holds w.put.new.self).0) (kept-same c.self.invariant c.args.number w.in-Some.txn.now w.put.new.self (sym w.in-Some.ensures.value)
+          (put-keeps c.args.key c.args.value (as_row c.args.number w.in-Some.txn.now) (as_row c.args.number w.put.new.self) w.put.result w.put.ensures.refused (on_ok_weaker w.put.result (λ row. row c.args.number) w.put.ensures.ok) (on_err_weaker w.put.result (λ row. row c.args.number) w.put.ensures.err)) w.put.ensures.reads)
       | in-None w ↦ rw (w.self-inside-is, c.get_mut.follows.holds-at-none) c.self.invariant
     ]
 
