@@ -1,2 +1,9 @@
 pub mod Graphic
+pub mod Hearing
+pub mod Ids
+pub mod Many
+pub mod Numbers
+pub mod ReadBack
 pub mod Spaced
+pub mod Spaces
+pub mod WordTexts

@@ -70,7 +70,7 @@ fn graphic_text(bytes: &[u8]) -> &str
 }
 
 /// Whether each byte is 33 to 126.
-fn are_graphic(bytes: &[u8]) -> bool
+pub(crate) fn are_graphic(bytes: &[u8]) -> bool
     ensures { result ≡ list_all is_key_byte bytes.now }
 {
     bytes.iter().all(|b| matches!(b, b'!'..=b'~'))

@@ -22,7 +22,7 @@ pub fn write_reply(alloc: Global, reply: &Reply) -> Result<Text, Memory>
 }
 
 /// The text of a reply, as a string.
-fn text_of(alloc: Global, reply: &Reply) -> Result<String, Memory>
+pub(crate) fn text_of(alloc: Global, reply: &Reply) -> Result<String, Memory>
     ensures { IfOk result (λ text. string_bytes text ≡ reply_text reply.now) }
 {
     match reply {

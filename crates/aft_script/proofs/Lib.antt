@@ -1,4 +1,5 @@
 pub mod Generating
+pub mod Made
 pub mod Numbers
 pub mod Runnables
 pub mod Splits

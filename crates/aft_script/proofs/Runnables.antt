@@ -1,5 +1,5 @@
 -- One line more in a script that can be run.
-use Rattle.std.proofs.Common.{List, [], arith, ℕ, ◌+◌, ◌++◌, ◌<◌, ◌≡◌, ◌≤◌, ◌∷◌}
+use Rattle.std.proofs.Common.{List, [], arith, length, ℕ, ◌+◌, ◌++◌, ◌<◌, ◌≡◌, ◌≤◌, ◌∷◌}
 use Rattle.std.specs.List.{AllByRecursion}
 use Rattle.aft_model.specs.declared.script.Line.{Line}
 use Rattle.aft_script.specs.Runnable.{AreReadTo, Ascend, IsLineFor}
@@ -33,3 +33,12 @@ read_more nodes n lines line some is fits read = record {
 -- nothing was read
 pub read_nothing : (nodes n : ℕ) → AreReadTo nodes n []
 read_nothing nodes n = record { runnable = record { each = tt; ascending = tt }; below = tt }
+
+-- lines whose numbers ascend to below another number are fewer
+ascend_few : (least n : ℕ) (lines : List Line) → least < n → Ascend least lines → AllByRecursion (λ line. line.number < n) lines → length lines + least + 1 ≤ n
+ascend_few least n [] above ascending below = omega arith
+ascend_few least n (line ∷ lines) above ascending below = omega (arith, ascending.0, ascend_few line.number n lines below.0 ascending.1 below.1)
+
+-- so many lines are fewer than the next number
+pub read_few : (nodes n : ℕ) (lines : List Line) → 1 ≤ n → AreReadTo nodes n lines → length lines + 1 ≤ n
+read_few nodes n lines some read = omega (arith, ascend_few 0 n lines (omega arith) read.runnable.ascending read.below)

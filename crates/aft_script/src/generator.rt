@@ -2,6 +2,7 @@
 
 ghost use Rattle.std.specs.Prelude.{◌≡◌, ◌<◌, ◌≤◌, ◌+◌, ◌%◌, ◌^◌, ◌/◌, ◌++◌, ◌∷◌, [], IfOk, OnOk, length, filter, codes};
 ghost use Rattle.std.specs.Fmt.{decimal};
+ghost use Rattle.aft_script.specs.Runnable.{AreRunnable};
 ghost use Rattle.aft_script.specs.Generator.{Made, after_draw, and_begin, and_calls, and_get, and_line, and_nodes_kept, and_put, and_store_kept, and_transaction, client_of_transaction, drawn, four_turns, generated_lines, generated_steps, kept, key_of_number, made_after, next_state, one_line, times, uuid_of_number};
 
 use crate::order::has_client;
@@ -31,6 +32,8 @@ pub fn generate(alloc: Global, count: u32, first: u64) -> Result<(Script, Order)
     requires few { count ≤ 5000 }
     ensures script { IfOk result (λ made. made.0.lines ≡ generated_lines count first) }
     ensures order { IfOk result (λ made. made.1.words ≡ generated_steps (generated_lines count first)) }
+    ensures runnable { IfOk result (λ made. AreRunnable 2 made.0.lines) }
+    ensures few { IfOk result (λ made. length made.0.lines ≤ 20000) }
 {
     let mut maker = Maker {
         alloc,

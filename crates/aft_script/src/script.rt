@@ -1,6 +1,6 @@
 //! Reading a script.
 
-ghost use Rattle.std.specs.Prelude.{◌≡◌, ◌≤◌, ◌++◌, ◌∷◌, [], ◌+◌, IfErr, IfOk, IsOk, OnOk, Ok};
+ghost use Rattle.std.specs.Prelude.{◌≡◌, ◌≤◌, ◌++◌, ◌∷◌, [], ◌+◌, IfErr, IfOk, IsOk, OnOk, Ok, length};
 ghost use Rattle.aft_conf.specs.Settings.{AreSettings};
 ghost use Rattle.aft_script.specs.Gives.{Fails, Reads};
 ghost use Rattle.aft_script.specs.Limits.{Tallies, room_for};
@@ -26,6 +26,7 @@ pub fn read_script(alloc: Global, bytes: &[u8], conf: &Conf) -> Result<Script, S
     requires { AreSettings conf.now }
     ensures value { Reads (λ script. script.lines) result (script_of conf.now bytes.now) }
     ensures runnable { IfOk result (λ script. AreRunnable conf.now.nodes script.lines) }
+    ensures few { IfOk result (λ script. length script.lines ≤ 20000) }
 {
     let mut reader = Reader::new(alloc);
     let mut number = 0;

@@ -1,5 +1,6 @@
 use Rattle.std.proofs.Common.{ap, arith, ◌≡◌, ◌∙◌}
 use Rattle.aft_script.specs.Generator.{Made, generated_steps, made_after}
+use Rattle.aft_script.proofs.Made.{generated_few, generated_runnable}
 use Rattle.aft_script.proofs.Generating.{made_after-next}
 use Rattle.aft_script.proofs.generator.generate.Goals as goal
 
@@ -26,3 +27,9 @@ returns-clause-order c =
     let all : c.loop-before.before ≡ c.args.count = omega arith in
     c.from_vec.ensures ∙ c.in_ok-words.ensures
     ∙ ap generated_steps (c.as_slice.ensures.value ∙ ap (λ made. made.lines) (c.loop-before.invariant.made ∙ ap (made_after c.args.first) all))
+
+pub returns-clause-runnable : goal.returns-clause-runnable
+returns-clause-runnable c = rw (returns-clause-script c) (generated_runnable c.args.count c.args.first c.requires.few)
+
+pub returns-clause-few : goal.returns-clause-few
+returns-clause-few c = rw (returns-clause-script c) (generated_few c.args.count c.args.first c.requires.few)

@@ -1,0 +1,15 @@
+use Rattle.std.proofs.Common.{All, length}
+use Rattle.aft_reply.specs.Limits.{IsBlocker}
+use Rattle.aft_reply.specs.Reading.{take_blocker, words_left}
+use Rattle.aft_reply.proofs.Many.{Left}
+use Rattle.aft_reply.proofs.lists.blockers.Given as goal
+
+-- what was read so far, and what is left of the words
+abbrev pub invariant-loop-rest : goal.invariant-loop-rest
+invariant-loop-rest l = record {
+  left : Left take_blocker (words_left l.fn.left) l.blocked.items (words_left l.rest);
+  fits : All IsBlocker l.blocked.items;
+}
+
+abbrev pub decreases-loop-rest : goal.decreases-loop-rest
+decreases-loop-rest l = length (words_left l.rest)
