@@ -18,7 +18,6 @@ use Rattle.aft_model.specs.declared.door.DoorEntry.{DoorEntry}
 use Rattle.aft_model.specs.Bytes.{acts_bytes}
 use Rattle.aft_model.specs.Claims.{claimant, gives_up, is_claim_of, is_held_by, tries_delete}
 use Rattle.aft_model.specs.Cut.{tries_put}
-use Rattle.aft_model.specs.DoorKnowledge.{is_open, opens}
 use Rattle.aft_model.specs.History.{last_place}
 use Rattle.aft_model.specs.LegalDoor.{may_follow}
 use Rattle.aft_model.specs.Membership.{Incarnation, fenced as history_fenced, inc_at, incarnation}
@@ -31,21 +30,20 @@ use Rattle.aft_door.specs.Entries.{called, came_up, claimed, door_opened, gave_u
 use Rattle.aft_door.specs.Ledger.{IsLedger}
 use Rattle.aft_model.proofs.OneCommit.{claimant-snoc}
 use Rattle.aft_door.specs.Index.{IsPlaced, claimant_in, greater, greatest, last_put, same_given}
-use Rattle.aft_door.proofs.Changed.{and_false, and_nested, bytes_symm, fenced_with, given_symm, holds_claim, markers_apart, one_with, one_without, open_rule, records_apart, ups_with, ups_without, uuid_passes}
-use Rattle.aft_door.proofs.Kept.{OneIn, UpsIn, placed_kept, claims_kept, fenced_kept, forgotten_kept, given_kept, one_kept, open_kept, puts_kept, up_kept}
+use Rattle.aft_door.proofs.Changed.{and_false, and_nested, bytes_symm, fenced_with, given_symm, holds_claim, markers_apart, open_rule, records_apart, ups_with, ups_without, uuid_passes}
+use Rattle.aft_door.proofs.Kept.{UpsIn, placed_kept, claims_kept, fenced_kept, forgotten_kept, given_kept, puts_kept, up_kept}
+use Rattle.aft_door.proofs.Standing.{standing_is}
 use Rattle.aft_door.proofs.Snocs.{any_act, bytes_more, fenced_more, last_more, legal_more, ups_more}
 
-module _ (history : List DoorEntry) (now : Bool) (ups fenced : List (ℕ × ℕ)) (claims : List (List ℕ × Claimed)) (forgotten : List (List ℕ)) (puts : List (List ℕ × ℕ)) (given : List GivenUp) (capacity spare : ℕ)
-    (l : IsLedger history now ups fenced claims forgotten puts given capacity spare) where
+module _ (history : List DoorEntry) (ups fenced : List (ℕ × ℕ)) (claims : List (List ℕ × Claimed)) (forgotten : List (List ℕ)) (puts : List (List ℕ × ℕ)) (given : List GivenUp) (capacity spare : ℕ)
+    (l : IsLedger history ups fenced claims forgotten puts given capacity spare) where
   -- a call that puts no record and deletes no marker
   pub call_added : (after : ℕ) (who : Caller) (call : KeeperCall) (answer : KeeperAnswer) → let e = called who call answer in IsTrue (may_follow history e) → IsTrue (acts_bytes e.act)
       → ((uuid : List ℕ) → tries_delete (marker_name uuid) e.act ≡ false) → ((uuid : List ℕ) → tries_put (record_name uuid) e.act ≡ false)
-      → length ups + length claims + length (history ++ e ∷ []) ≤ after → IsLedger (history ++ e ∷ []) now ups fenced claims forgotten puts given after spare
+      → length ups + length claims + length (history ++ e ∷ []) ≤ after → IsLedger (history ++ e ∷ []) ups fenced claims forgotten puts given after spare
   call_added after who call answer legal bytes no_marker no_record room = let e = called who call answer in record {
     legal = legal_more history e l.legal legal;
     bytes = bytes_more history e l.bytes bytes;
-    one_up = one_kept history e (λ xs. refl) l.one_up;
-    opened = open_kept history e refl now l.opened;
     ups_agree = up_kept history e (λ xs. refl) ups l.ups_agree;
     fenced_agree = fenced_kept history e refl fenced l.fenced_agree;
     claims_agree = claims_kept history e (λ uuid o. refl) (λ uuid. refl) claims l.claims_agree;
@@ -60,12 +58,10 @@ module _ (history : List DoorEntry) (now : Bool) (ups fenced : List (ℕ × ℕ)
   pub record_added : (after place : ℕ) (who : Caller) (uuid name bytes : List ℕ) (answer : KeeperAnswer) (more : List (List ℕ × ℕ)) → let e = called who (Put name bytes) answer in
       IsTrue (may_follow history e) → IsTrue (acts_bytes e.act) → IsUuid uuid → name ≡ record_name uuid → place ≡ length history
       → ((q : List ℕ) → lookup (bytes_eq q) more ≡ cond (bytes_eq uuid q) (Some place) (lookup (bytes_eq q) puts))
-      → length ups + length claims + length (history ++ e ∷ []) ≤ after → IsLedger (history ++ e ∷ []) now ups fenced claims forgotten more given after spare
+      → length ups + length claims + length (history ++ e ∷ []) ≤ after → IsLedger (history ++ e ∷ []) ups fenced claims forgotten more given after spare
   record_added after place who uuid name bytes answer more legal made_of is named at updates room = let e = called who (Put name bytes) answer in record {
     legal = legal_more history e l.legal legal;
     bytes = bytes_more history e l.bytes made_of;
-    one_up = one_kept history e (λ xs. refl) l.one_up;
-    opened = open_kept history e refl now l.opened;
     ups_agree = up_kept history e (λ xs. refl) ups l.ups_agree;
     fenced_agree = fenced_kept history e refl fenced l.fenced_agree;
     claims_agree = claims_kept history e (λ uuid o. refl) (λ uuid. refl) claims l.claims_agree;
@@ -82,12 +78,10 @@ module _ (history : List DoorEntry) (now : Bool) (ups fenced : List (ℕ × ℕ)
   pub marker_added : (after : ℕ) (who : Caller) (uuid name : List ℕ) (answer : KeeperAnswer) (more : List (List ℕ)) → let e = called who (Delete name) answer in
       IsTrue (may_follow history e) → IsTrue (acts_bytes e.act) → IsUuid uuid → name ≡ marker_name uuid
       → ((q : List ℕ) → list_any (bytes_eq q) more ≡ cond (bytes_eq uuid q) true (list_any (bytes_eq q) forgotten))
-      → length ups + length claims + length (history ++ e ∷ []) ≤ after → IsLedger (history ++ e ∷ []) now ups fenced claims more puts given after spare
+      → length ups + length claims + length (history ++ e ∷ []) ≤ after → IsLedger (history ++ e ∷ []) ups fenced claims more puts given after spare
   marker_added after who uuid name answer more legal made_of is named updates room = let e = called who (Delete name) answer in record {
     legal = legal_more history e l.legal legal;
     bytes = bytes_more history e l.bytes made_of;
-    one_up = one_kept history e (λ xs. refl) l.one_up;
-    opened = open_kept history e refl now l.opened;
     ups_agree = up_kept history e (λ xs. refl) ups l.ups_agree;
     fenced_agree = fenced_kept history e refl fenced l.fenced_agree;
     claims_agree = claims_kept history e (λ uuid o. refl) (λ uuid. refl) claims l.claims_agree;
@@ -110,12 +104,10 @@ module _ (history : List DoorEntry) (now : Bool) (ups fenced : List (ℕ × ℕ)
 
   -- the opening ends
   pub opened_added : (after : ℕ) (by : By) → let e = door_opened by in IsTrue (may_follow history e)
-      → length ups + length claims + length (history ++ e ∷ []) ≤ after → IsLedger (history ++ e ∷ []) true ups fenced claims forgotten puts given after spare
+      → length ups + length claims + length (history ++ e ∷ []) ≤ after → IsLedger (history ++ e ∷ []) ups fenced claims forgotten puts given after spare
   opened_added after by legal room = let e = door_opened by in record {
     legal = legal_more history e l.legal legal;
     bytes = bytes_more history e l.bytes refl;
-    one_up = one_kept history e (λ xs. refl) l.one_up;
-    opened = sym (any_act opens history e ∙ or-true (is_open history));
     ups_agree = up_kept history e (λ xs. refl) ups l.ups_agree;
     fenced_agree = fenced_kept history e refl fenced l.fenced_agree;
     claims_agree = claims_kept history e (λ uuid o. refl) (λ uuid. refl) claims l.claims_agree;
@@ -129,13 +121,11 @@ module _ (history : List DoorEntry) (now : Bool) (ups fenced : List (ℕ × ℕ)
   -- an incarnation comes up
   pub up_added : (after : ℕ) (by : By) (node inc : ℕ) (more : List (ℕ × ℕ)) → let e = came_up by node inc in IsTrue (may_follow history e)
       → ((q : ℕ) → lookup (λ key. q == key) more ≡ cond (eqb node q) (Some inc) (lookup (λ key. q == key) ups))
-      → length more + length claims + length (history ++ e ∷ []) ≤ after → length more ≤ spare → IsLedger (history ++ e ∷ []) now more fenced claims forgotten puts given after spare
+      → length more + length claims + length (history ++ e ∷ []) ≤ after → length more ≤ spare → IsLedger (history ++ e ∷ []) more fenced claims forgotten puts given after spare
   up_added after by node inc more legal updates room fences = let e = came_up by node inc in
       let comes = open_rule history e (and_false (same_line opening by)) legal in record {
         legal = legal_more history e l.legal legal;
         bytes = bytes_more history e l.bytes refl;
-        one_up = subst OneIn (sym (ups_more history e)) (one_with node inc _ (and_parts _ _ comes).0 l.one_up);
-        opened = open_kept history e refl now l.opened;
         ups_agree = subst (UpsIn more) (sym (ups_more history e)) (ups_with node inc _ ups more updates l.ups_agree);
         fenced_agree = fenced_kept history e refl fenced l.fenced_agree;
         claims_agree = claims_kept history e (λ uuid o. refl) (λ uuid. refl) claims l.claims_agree;
@@ -151,15 +141,13 @@ module _ (history : List DoorEntry) (now : Bool) (ups fenced : List (ℕ × ℕ)
       → ((q : ℕ) → lookup (λ key. q == key) less_ups ≡ cond (eqb node q) None (lookup (λ key. q == key) ups))
       → greater (lookup (λ key. node == key) fenced) inc ≡ Some most → ((q : ℕ) → lookup (λ key. q == key) more ≡ cond (eqb node q) (Some most) (lookup (λ key. q == key) fenced))
       → length less_ups + length claims + length (history ++ e ∷ []) ≤ after → length less_ups ≤ spare_after
-      → IsLedger (history ++ e ∷ []) now less_ups more claims forgotten puts given after spare_after
+      → IsLedger (history ++ e ∷ []) less_ups more claims forgotten puts given after spare_after
   fence_added after spare_after by node inc less_ups more most legal gone is updates room fences = let e = was_fenced by node inc in
       let comes = and_parts _ _ (open_rule history e (and_false (same_line opening by)) legal) in
       let who : Incarnation = incarnation node inc in record {
         legal = legal_more history e l.legal legal;
         bytes = bytes_more history e l.bytes refl;
-        one_up = subst OneIn (sym (ups_more history e)) (one_without who _ l.one_up comes.0);
-        opened = open_kept history e refl now l.opened;
-        ups_agree = subst (UpsIn less_ups) (sym (ups_more history e)) (ups_without who _ l.one_up comes.0 ups less_ups (not-true (node == 0) comes.1) gone l.ups_agree);
+        ups_agree = subst (UpsIn less_ups) (sym (ups_more history e)) (ups_without who _ (standing_is history l.legal).one comes.0 ups less_ups (not-true (node == 0) comes.1) gone l.ups_agree);
         fenced_agree = λ q. fenced_with node inc (history_fenced history) fenced more most is updates l.fenced_agree q ∙ ap (λ xs. greatest (flat_map (inc_at q) xs)) (sym (fenced_more history e));
         claims_agree = claims_kept history e (λ uuid o. refl) (λ uuid. refl) claims l.claims_agree;
         forgotten_agree = forgotten_kept history e (λ u. refl) forgotten l.forgotten_agree;
@@ -172,12 +160,10 @@ module _ (history : List DoorEntry) (now : Bool) (ups fenced : List (ℕ × ℕ)
   -- an incarnation claims a UUID
   pub claim_added : (after place : ℕ) (who : Caller) (uuid : List ℕ) (more : List (List ℕ × Claimed)) → let e = claimed who uuid in IsTrue (may_follow history e) → IsUuid uuid → place ≡ length history
       → ((q : List ℕ) → lookup (bytes_eq q) more ≡ cond (bytes_eq uuid q) (Some (record { node = who.node; inc = who.inc; place = place })) (lookup (bytes_eq q) claims))
-      → length ups + length more + length (history ++ e ∷ []) ≤ after → IsLedger (history ++ e ∷ []) now ups fenced more forgotten puts given after spare
+      → length ups + length more + length (history ++ e ∷ []) ≤ after → IsLedger (history ++ e ∷ []) ups fenced more forgotten puts given after spare
   claim_added after place who uuid more legal is at updates room = let e = claimed who uuid in record {
     legal = legal_more history e l.legal legal;
     bytes = bytes_more history e l.bytes (uuid_passes uuid is);
-    one_up = one_kept history e (λ xs. refl) l.one_up;
-    opened = open_kept history e refl now l.opened;
     ups_agree = up_kept history e (λ xs. refl) ups l.ups_agree;
     fenced_agree = fenced_kept history e refl fenced l.fenced_agree;
     claims_agree = record {
@@ -205,13 +191,11 @@ module _ (history : List DoorEntry) (now : Bool) (ups fenced : List (ℕ × ℕ)
   -- an incarnation lets a UUID go
   pub release_added : (after : ℕ) (who : Caller) (uuid : List ℕ) (less_claims : List (List ℕ × Claimed)) → let e = released who uuid in IsTrue (may_follow history e) → IsUuid uuid
       → ((q : List ℕ) → lookup (bytes_eq q) less_claims ≡ cond (bytes_eq uuid q) None (lookup (bytes_eq q) claims))
-      → length ups + length less_claims + length (history ++ e ∷ []) ≤ after → IsLedger (history ++ e ∷ []) now ups fenced less_claims forgotten puts given after spare
+      → length ups + length less_claims + length (history ++ e ∷ []) ≤ after → IsLedger (history ++ e ∷ []) ups fenced less_claims forgotten puts given after spare
   release_added after who uuid less_claims legal is updates room = let e = released who uuid in
       let held = holds_claim (who_calls who) uuid history (and_parts _ _ (open_rule history e (and_false (same_line opening who.by)) legal)).1 in record {
         legal = legal_more history e l.legal legal;
         bytes = bytes_more history e l.bytes (uuid_passes uuid is);
-        one_up = one_kept history e (λ xs. refl) l.one_up;
-        opened = open_kept history e refl now l.opened;
         ups_agree = up_kept history e (λ xs. refl) ups l.ups_agree;
         fenced_agree = fenced_kept history e refl fenced l.fenced_agree;
         claims_agree = record {
@@ -240,12 +224,10 @@ module _ (history : List DoorEntry) (now : Bool) (ups fenced : List (ℕ × ℕ)
   -- an incarnation gives the commit of an id up
   pub give_up_added : (after : ℕ) (who : Caller) (id : TxnId) (more : List GivenUp) → let e = gave_up who id in IsTrue (may_follow history e) → IsUuid id.uuid
       → ((q : GivenUp) → list_any (same_given q) more ≡ cond (same_given (record { node = who.node; inc = who.inc; id = id }) q) true (list_any (same_given q) given))
-      → length ups + length claims + length (history ++ e ∷ []) ≤ after → IsLedger (history ++ e ∷ []) now ups fenced claims forgotten puts more after spare
+      → length ups + length claims + length (history ++ e ∷ []) ≤ after → IsLedger (history ++ e ∷ []) ups fenced claims forgotten puts more after spare
   give_up_added after who id more legal is updates room = let e = gave_up who id in record {
     legal = legal_more history e l.legal legal;
     bytes = bytes_more history e l.bytes (uuid_passes id.uuid is);
-    one_up = one_kept history e (λ xs. refl) l.one_up;
-    opened = open_kept history e refl now l.opened;
     ups_agree = up_kept history e (λ xs. refl) ups l.ups_agree;
     fenced_agree = fenced_kept history e refl fenced l.fenced_agree;
     claims_agree = claims_kept history e (λ uuid o. refl) (λ uuid. refl) claims l.claims_agree;

@@ -149,7 +149,7 @@ less_own who (x ∷ xs) alone = cases (same_incarnation who x) refl (eqb x.node 
     cases false apart false at rest = ap (λ t. (if t then x.inc ∷ [] else []) ++ flat_map (inc_at who.node) (less who xs)) at ∙ rest
 
 -- who is left was there, and is another
-left_of : (who other : Incarnation) (xs : List Incarnation) → IsTrue (list_any (same_incarnation other) (less who xs)) → IsTrue (list_any (same_incarnation other) xs) × (other ≡ who → ⊥)
+pub left_of : (who other : Incarnation) (xs : List Incarnation) → IsTrue (list_any (same_incarnation other) (less who xs)) → IsTrue (list_any (same_incarnation other) xs) × (other ≡ who → ⊥)
 left_of who other [] among = absurd (false≢true among)
 left_of who other (x ∷ xs) among = cases (same_incarnation who x) refl (left_of who other xs) among
   where
@@ -165,7 +165,7 @@ left_of who other (x ∷ xs) among = cases (same_incarnation who x) refl (left_o
     ]
 
 module _ (who : Incarnation) (xs : List Incarnation) (one : OneIn xs) (up : IsTrue (list_any (same_incarnation who) xs)) where
-  alone : (other : Incarnation) → IsTrue (list_any (same_incarnation other) xs) → other.node ≡ who.node → other.inc ≡ who.inc
+  pub alone : (other : Incarnation) → IsTrue (list_any (same_incarnation other) xs) → other.node ≡ who.node → other.inc ≡ who.inc
   alone other among at = let e : Some other.inc ≡ Some who.inc = sym (one other among) ∙ ap (λ n. first_of (flat_map (inc_at n) xs)) at ∙ one who up in cc
 
   pub one_without : OneIn (less who xs)

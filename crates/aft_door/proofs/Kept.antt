@@ -1,5 +1,5 @@
 -- What an entry leaves as it was.
-use Rattle.std.proofs.Common.{◌≡◌, ℕ, length, Bool, false, ◌||◌, List, [], ◌∷◌, ◌++◌, sym, ap, subst, ◌∙◌, append-nil}
+use Rattle.std.proofs.Common.{◌≡◌, ℕ, length, false, ◌||◌, List, [], ◌∷◌, ◌++◌, sym, ap, subst, ◌∙◌, append-nil}
 use Rattle.std.specs.Prelude.{IsTrue, Option, Some, None, ◌==◌, if◌then◌else◌}
 use Rattle.std.specs.List.{list_any, flat_map}
 use Rattle.std.specs.Map.{lookup}
@@ -9,7 +9,6 @@ use Rattle.aft_id.specs.declared.txn_id.TxnId.{TxnId}
 use Rattle.aft_model.specs.declared.door.DoorEntry.{DoorEntry}
 use Rattle.aft_model.specs.Claims.{claimant_after, claimant, forgotten, given_up, gives_up, is_claim_of, tries_delete}
 use Rattle.aft_model.specs.Cut.{tries_put}
-use Rattle.aft_model.specs.DoorKnowledge.{is_open, opens}
 use Rattle.aft_model.specs.History.{first_of, last_place}
 use Rattle.aft_model.specs.Membership.{Incarnation, fenced, fenced_in, inc_at, same_incarnation, up_after, ups}
 use Rattle.aft_model.specs.Readings.{marker_name, record_name}
@@ -17,7 +16,6 @@ use Rattle.aft_model.proofs.OneCommit.{claimant-snoc}
 use Rattle.aft_door.specs.declared.index.Claimed.{Claimed}
 use Rattle.aft_door.specs.declared.index.GivenUp.{GivenUp}
 use Rattle.aft_door.specs.Index.{ClaimsAgree, FencedAgree, ForgottenAgree, GivenAgree, IsPlaced, PutsAgree, UpsAgree, greatest, last_put, up_in}
-use Rattle.aft_door.specs.Ledger.{OneUp}
 use Rattle.aft_door.proofs.Snocs.{any_act, fenced_more, last_more, ups_more}
 
 -- one incarnation of each node in a list
@@ -33,9 +31,6 @@ module _ (history : List DoorEntry) (e : DoorEntry) where
   module _ (same : (xs : List Incarnation) → up_after xs e.act ≡ xs) where
     ups_kept : ups (history ++ e ∷ []) ≡ ups history
     ups_kept = ups_more history e ∙ same (ups history)
-
-    pub one_kept : OneUp history → OneUp (history ++ e ∷ [])
-    one_kept one = subst OneIn (sym ups_kept) one
 
     pub up_kept : (nodes : List (ℕ × ℕ)) → UpsAgree history nodes → UpsAgree (history ++ e ∷ []) nodes
     up_kept nodes agree = subst (UpsIn nodes) (sym ups_kept) agree
@@ -72,7 +67,3 @@ module _ (history : List DoorEntry) (e : DoorEntry) where
   pub given_kept : ((who : Incarnation) (id : TxnId) → gives_up who id e.act ≡ false) → (given : List GivenUp) → GivenAgree history given → GivenAgree (history ++ e ∷ []) given
   given_kept none given agree =
       λ who id. agree who id ∙ sym (any_act (gives_up who id) history e ∙ ap (λ t. given_up who id history || t) (none who id) ∙ or-false (given_up who id history))
-
-  -- whether the door is open
-  pub open_kept : opens e.act ≡ false → (now : Bool) → now ≡ is_open history → now ≡ is_open (history ++ e ∷ [])
-  open_kept none now agree = agree ∙ sym (any_act opens history e ∙ ap (λ t. is_open history || t) none ∙ or-false (is_open history))

@@ -10,3 +10,6 @@ pub mod Went
 pub mod Puts
 pub mod Holdouts
 pub mod Timely
+pub mod Standing
+pub mod Along
+pub mod Seen

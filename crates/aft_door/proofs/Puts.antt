@@ -47,7 +47,7 @@ use Rattle.aft_model.specs.Readings.{id_of_marker, marker_name, markers_in, read
 use Rattle.aft_model.proofs.Sights.{bytes_eq-refl}
 
 -- what is read under its own name is there alone
-read_own : {A : Type 0} (name : List ℕ) (its_name : A → List ℕ) (r : Result A RecordFault) (x : A) → r ≡ Ok x → name ≡ its_name x → read_under name its_name r ≡ x ∷ []
+pub read_own : {A : Type 0} (name : List ℕ) (its_name : A → List ℕ) (r : Result A RecordFault) (x : A) → r ≡ Ok x → name ≡ its_name x → read_under name its_name r ≡ x ∷ []
 read_own name its_name r x read named =
     ap (read_under name its_name) read ∙ ap (λ n. if bytes_eq n (its_name x) then x ∷ [] else []) named ∙ ap (λ t. if t then x ∷ [] else []) (bytes_eq-refl (its_name x))
 

@@ -1,25 +1,28 @@
 -- What is true of the door's history and of what is kept beside it.
-use Rattle.std.specs.Prelude.{Bool, List, Some, length, ℕ, ◌+◌, ◌≡◌, ◌≤◌}
-use Rattle.std.specs.Prelude.{IsTrue}
+use Rattle.std.specs.Prelude.{Bool, IsFalse, IsTrue, List, Some, length, ℕ, ◌+◌, ◌≡◌, ◌≤◌}
 use Rattle.aft_door.specs.declared.index.Claimed.{Claimed}
 use Rattle.aft_door.specs.declared.index.GivenUp.{GivenUp}
 use Rattle.aft_door.specs.Index.{ClaimsAgree, FencedAgree, ForgottenAgree, GivenAgree, PutsAgree, UpsAgree}
 use Rattle.aft_model.specs.declared.door.DoorEntry.{DoorEntry}
 use Rattle.aft_model.specs.Bytes.{HasBytes}
-use Rattle.aft_model.specs.DoorKnowledge.{is_open}
 use Rattle.aft_model.specs.LegalDoor.{Legal}
-use Rattle.aft_model.specs.Membership.{Incarnation, is_up, up_now}
+use Rattle.aft_model.specs.Membership.{Incarnation, is_up, the_office, up_now}
+use Rattle.aft_door.specs.Refusals.{is_past}
 
 -- one incarnation of each node is up
 abbrev pub OneUp : List DoorEntry → Type 0
 OneUp history = (who : Incarnation) → IsTrue (is_up who history) → up_now who.node history ≡ Some who.inc
 
+-- who is up in a legal history: one incarnation of each node, always the office, and none that was fenced or is older than one that was
+pub record Standing (history : List DoorEntry) : Type 0 where
+  pub one : OneUp history
+  pub office : IsTrue (is_up the_office history)
+  pub fresh : (who : Incarnation) → IsTrue (is_up who history) → IsFalse (is_past who.node who.inc history)
+
 -- the history is legal and made of bytes, each map agrees with it, and there is room for a fence of each incarnation that is up and for a release of each claim
-pub record IsLedger (history : List DoorEntry) (open_now : Bool) (ups fenced : List (ℕ × ℕ)) (claims : List (List ℕ × Claimed)) (forgotten : List (List ℕ)) (puts : List (List ℕ × ℕ)) (given : List GivenUp) (capacity spare : ℕ) : Type 0 where
+pub record IsLedger (history : List DoorEntry) (ups fenced : List (ℕ × ℕ)) (claims : List (List ℕ × Claimed)) (forgotten : List (List ℕ)) (puts : List (List ℕ × ℕ)) (given : List GivenUp) (capacity spare : ℕ) : Type 0 where
   pub legal : Legal history
   pub bytes : HasBytes history
-  pub one_up : OneUp history
-  pub opened : open_now ≡ is_open history
   pub ups_agree : UpsAgree history ups
   pub fenced_agree : FencedAgree history fenced
   pub claims_agree : ClaimsAgree history claims

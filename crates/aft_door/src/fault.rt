@@ -7,7 +7,8 @@ use thiserror::Error;
 /// Why the door refuses a call. They are tested in this order.
 #[derive(Clone, Copy, Debug, PartialEq, Eq, Error)]
 pub enum DoorFault {
-    /// The caller's incarnation isn't up.
+    /// The caller's incarnation isn't up. To one that is to come up it says that this number or a greater one of its node was shut
+    /// out.
     #[error("incarnation {inc} of node {node} is shut out")]
     Fenced { node: u32, inc: u32 },
     /// Another incarnation, which is up, holds the UUID.
@@ -19,7 +20,7 @@ pub enum DoorFault {
     /// The caller's incarnation doesn't hold the UUID.
     #[error("the caller does not hold the UUID")]
     NotHolder,
-    /// An incarnation that is up has not given the commit up. Of several it is the one of the least node.
+    /// An incarnation of a node of 1 or more, which is up, has not given the commit up. Of several it is the one of the least node.
     #[error("incarnation {inc} of node {node} has not given the commit up")]
     Holdout { node: u32, inc: u32 },
     /// Memory ran out.

@@ -14,7 +14,7 @@ ghost use Rattle.aft_door.specs.Index.{IsPlaced, NotesFenced, claimant_in};
 ghost use Rattle.aft_door.specs.Least.{LeastKept, keeps, lesser_pair};
 ghost use Rattle.std.specs.Map.{lookup};
 ghost use Rattle.indexmap.specs.IndexMap.{spare};
-ghost use Rattle.aft_door.specs.Ledger.{OneUp};
+ghost use Rattle.aft_door.specs.Ledger.{Standing};
 ghost use Rattle.aft_door.specs.Refusals.{is_past};
 
 use crate::index::{Claimed, GivenUp};
@@ -32,7 +32,6 @@ use uuid::Uuid;
 #[derive(Drop)]
 pub(crate) struct Ledger {
     history: Vec<DoorEntry>,
-    is_open: bool,
     ups: IndexMap<u32, u32>,
     fenced: IndexMap<u32, u32>,
     claims: IndexMap<Uuid, Claimed>,
@@ -57,7 +56,7 @@ impl Model for Ledger {
           && nat_lt 0 (set_spare l.forgotten) && nat_lt 0 (set_spare l.given);
     } };
 
-    ghost invariant = { λ l. IsLedger l.history.items l.is_open l.ups.entries l.fenced.entries l.claims.entries l.forgotten.keys l.puts.entries l.given.keys (vec_capacity l.history) (spare l.fenced) };
+    ghost invariant = { λ l. IsLedger l.history.items l.ups.entries l.fenced.entries l.claims.entries l.forgotten.keys l.puts.entries l.given.keys (vec_capacity l.history) (spare l.fenced) };
 }
 
 impl Ledger {
@@ -67,7 +66,6 @@ impl Ledger {
     {
         Ledger {
             history: Vec::new(alloc),
-            is_open: false,
             ups: IndexMap::new(alloc),
             fenced: IndexMap::new(alloc),
             claims: IndexMap::new(alloc),
@@ -85,7 +83,6 @@ impl Ledger {
     {
         let Ledger {
             history,
-            is_open: _,
             ups: _,
             fenced: _,
             claims: _,
@@ -100,6 +97,7 @@ impl Ledger {
     pub(crate) fn law(&self)
         ensures legal { Legal self.now.history }
         ensures bytes { HasBytes self.now.history }
+        ensures standing { Standing self.now.history }
     {
         let _ = &self.history;
     }
@@ -134,17 +132,9 @@ impl Ledger {
         count(&self.history)
     }
 
-    /// Whether the opening has ended.
-    pub(crate) fn is_open(&self) -> bool
-        ensures { result ≡ is_open self.now.history }
-    {
-        self.is_open
-    }
-
     /// The incarnation of a node that is up, if one is.
     pub(crate) fn up_now(&self, node: u32) -> Option<u32>
-        ensures value { result ≡ up_now node self.now.history }
-        ensures one { OneUp self.now.history }
+        ensures { result ≡ up_now node self.now.history }
     {
         match self.ups.get(&node) {
             Some(inc) => Some(*inc),
@@ -157,6 +147,7 @@ impl Ledger {
     pub(crate) fn is_up(&self, node: u32, inc: u32) -> bool
         ensures { result ≡ is_up (incarnation node inc) self.now.history }
     {
+        self.law();
         self.up_now(node) == Some(inc)
     }
 
@@ -384,7 +375,6 @@ impl Ledger {
         requires legal { IsTrue (may_follow self.old.history (door_opened by)) }
         ensures { self.new.history ≡ self.old.history ++ door_opened by ∷ [] }
     {
-        self.is_open = true;
         let act = DoorAct::Opened;
         add(&mut self.history, DoorEntry { by, act });
     }

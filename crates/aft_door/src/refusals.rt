@@ -36,7 +36,7 @@ impl Ledger {
     }
 
     /// The UUID isn't forgotten.
-    pub(crate) fn test_known(&self, uuid: &Uuid) -> Result<(), DoorFault>
+    pub(crate) fn test_not_forgotten(&self, uuid: &Uuid) -> Result<(), DoorFault>
         ensures { result ≡ as_result (if_forgotten uuid.now self.now.history) }
     {
         if self.is_forgotten(uuid) {

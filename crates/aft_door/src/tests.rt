@@ -1,19 +1,28 @@
-//! What no clause says: that the calls succeed where memory is ample.
+//! What no clause says: that calls succeed where memory is ample, and that refusals come.
 
-ghost use Rattle.std.specs.Prelude.{◌≡◌, ◌++◌, ◌∷◌, [], IsTrue};
+ghost use Rattle.std.specs.Prelude.{◌≡◌, ◌≢◌, ◌≤◌, ◌∷◌, ◌++◌, [], IsTrue, length};
 ghost use Rattle.aft_door.specs.Calls.{may_ask};
-ghost use Rattle.aft_door.specs.Entries.{called};
+ghost use Rattle.aft_door.specs.Entries.{called, claimed, released, who_calls};
 ghost use Rattle.aft_keeper.specs.declared.keeper.KeeperAnswer.TheVariants as answers;
 ghost use Rattle.aft_keeper.specs.declared.keeper.KeeperCall.TheVariants as calls;
-ghost use Rattle.aft_model.specs.DoorKnowledge.{is_open};
+ghost use Rattle.aft_model.specs.Committed.{Committed};
+ghost use Rattle.aft_model.specs.DoorKnowledge.{is_open, knows_orphan, knows_stored, knows_unused};
+ghost use Rattle.aft_model.specs.Membership.{incarnation};
+ghost use Rattle.aft_model.specs.Readings.{marker_name, record_name, version_name};
+ghost use Rattle.aft_records.specs.Limits.{IsTime, is_origin};
+ghost use Rattle.aft_records.specs.Names.{name_text};
+ghost use Rattle.aft_records.specs.Rows.{record_row, version_row};
+ghost use Rattle.aft_records.specs.Stored.{AreReads, IsVersion, IsWritableCommit, IsWritableId};
+
+mod lacking;
 
 use crate::{Door, DoorFault};
-use aft_id::List;
+use aft_id::{Bytes, List, TxnId, uuid_bytes};
 use aft_keeper::{Fail, MemKeeper};
 use aft_model::{By, Caller};
+use aft_records::{Commit, Key, Keys, Name, Origin, Record, Version};
 use std::alloc::Global;
 use std::process::Abort;
-use std::test::Fail as Failure;
 use uuid::Uuid;
 
 /// The office, in the opening.
@@ -26,6 +35,14 @@ fn office() -> Caller
         inc: 1,
         by,
     }
+}
+
+/// An incarnation 1 of a node, or the office, for line 1 of client 1.
+fn caller(node: u32) -> Caller
+    ensures { result ≡ record { node = node; inc = 1; by = record { client = 1; line = 1 } } }
+{
+    let by = By { client: 1, line: 1 };
+    Caller { node, inc: 1, by }
 }
 
 /// A scan that shows nothing.
@@ -41,8 +58,14 @@ fn scan_nothing(rt: &impl Abort, door: &mut Door<MemKeeper>, prefix: &str)
 fn open_door(rt: &impl Abort, alloc: Global) -> Door<MemKeeper>
     ensures { IsTrue (is_open result.history) }
 {
+    open_over(rt, alloc, List::from_vec(Vec::new(alloc)))
+}
+
+/// The same over a store of which some calls fail.
+fn open_over(rt: &impl Abort, alloc: Global, fails: List<Fail>) -> Door<MemKeeper>
+    ensures { IsTrue (is_open result.history) }
+{
     let nothing = List::from_vec(Vec::new(alloc));
-    let fails: List<Fail> = List::from_vec(Vec::new(alloc));
     let mut door = Door::new(alloc, MemKeeper::new(alloc, nothing, fails));
     scan_nothing(rt, &mut door, "c/");
     scan_nothing(rt, &mut door, "r/");
@@ -50,13 +73,14 @@ fn open_door(rt: &impl Abort, alloc: Global) -> Door<MemKeeper>
     door
 }
 
-/// Lets an incarnation come up.
-fn up(rt: &impl Abort, door: &mut Door<MemKeeper>, who: Caller) -> Result<(), DoorFault>
+/// Lets an incarnation 1 come up.
+fn come_up(rt: &impl Abort, door: &mut Door<MemKeeper>, node: u32)
     requires { IsTrue (is_open door.old.history) }
     ensures { IsTrue (is_open door.new.history) }
 {
-    assert!(rt; door.up_now(who.node).is_none());
-    door.up(who.node, who.inc, who.by)
+    assert!(rt; door.up_now(node).is_none());
+    let came = door.up(node, 1, caller(node).by);
+    assert!(rt; came.is_ok());
 }
 
 /// Claims a UUID that the caller doesn't hold.
@@ -76,55 +100,360 @@ fn claim(
     door.claim(who, uuid)
 }
 
-/// Lets a claim go.
-fn release(door: &mut Door<MemKeeper>, who: Caller, uuid: Uuid) -> Result<(), DoorFault>
+/// One incarnation claims a UUID, and another is told so.
+fn hold(rt: &impl Abort, door: &mut Door<MemKeeper>, uuid: Uuid)
     requires { IsTrue (is_open door.old.history) }
     ensures { IsTrue (is_open door.new.history) }
 {
-    door.release(who, uuid)
+    let held = claim(rt, door, caller(1), uuid);
+    assert!(rt; held.is_ok());
+    let busy = claim(rt, door, caller(2), uuid);
+    assert!(rt; busy == Err(DoorFault::Busy { node: 1, inc: 1 }));
+    assert!(rt; door.holder(uuid) == Some((1, 1)));
+    assert!(rt; door.claim_place(uuid) == Some(5));
 }
 
-/// Shuts out whoever is up at node 1.
-fn fence(door: &mut Door<MemKeeper>, by: By) -> Option<u32>
+/// Who holds a UUID is shut out, and another one claims it.
+fn shut_out(rt: &impl Abort, door: &mut Door<MemKeeper>, uuid: Uuid)
     requires { IsTrue (is_open door.old.history) }
     ensures { IsTrue (is_open door.new.history) }
 {
-    door.fence(1, by)
+    let other = door.release(caller(2), uuid);
+    assert!(rt; other == Err(DoorFault::NotHolder));
+    assert!(rt; door.fence(1, caller(2).by) == Some(1));
+    let fenced = door.release(caller(1), uuid);
+    assert!(rt; fenced == Err(DoorFault::Fenced { node: 1, inc: 1 }));
+    assert!(rt; door.next_inc(1) == 2);
+    let held = claim(rt, door, caller(2), uuid);
+    assert!(rt; held.is_ok());
+    let released = door.release(caller(2), uuid);
+    assert!(rt; released.is_ok());
 }
 
 #[test]
-fn claims(rt: HostRuntime) -> Result<(), Failure> {
+fn claims(rt: HostRuntime) {
     let mut door = open_door(&rt, rt.alloc());
-    let by = By { client: 1, line: 1 };
-    let first = Caller {
-        node: 1,
-        inc: 1,
-        by,
-    };
-    let second = Caller {
-        node: 2,
-        inc: 1,
-        by,
-    };
+    come_up(&rt, &mut door, 1);
+    come_up(&rt, &mut door, 2);
     let uuid = Uuid::from_u128(1);
-    assert_eq!(rt; up(&rt, &mut door, first), Ok(()));
-    assert_eq!(rt; up(&rt, &mut door, second), Ok(()));
-    assert_eq!(rt; claim(&rt, &mut door, first, uuid), Ok(()));
-    let busy = DoorFault::Busy { node: 1, inc: 1 };
-    assert_eq!(rt; claim(&rt, &mut door, second, uuid), Err(busy));
-    assert_eq!(rt; door.holder(uuid), Some((1, 1)));
-    assert_eq!(rt; door.claim_place(uuid), Some(5));
-    assert_eq!(rt; release(&mut door, second, uuid), Err(DoorFault::NotHolder));
-    assert_eq!(rt; fence(&mut door, by), Some(1));
-    assert_eq!(rt; fence(&mut door, by), None);
-    let fenced = DoorFault::Fenced { node: 1, inc: 1 };
-    assert_eq!(rt; release(&mut door, first, uuid), Err(fenced));
-    assert_eq!(rt; up(&rt, &mut door, first), Err(fenced));
-    assert_eq!(rt; door.next_inc(1), 2);
-    assert_eq!(rt; claim(&rt, &mut door, second, uuid), Ok(()));
-    assert_eq!(rt; release(&mut door, second, uuid), Ok(()));
-    assert!(rt; !door.forgotten(uuid) && !door.put_since(uuid, 0));
+    hold(&rt, &mut door, uuid);
+    shut_out(&rt, &mut door, uuid);
+    assert!(rt; door.len() == 9);
     let (_, history) = door.close();
-    assert_eq!(rt; history.as_slice().len(), 9);
-    Ok(())
+    assert!(rt; history.as_slice().len() == 9);
+}
+
+/// A get that finds nothing.
+fn find_nothing(rt: &impl Abort, door: &mut Door<MemKeeper>, who: Caller, name: &Name)
+    requires { IsTrue (is_open door.old.history) }
+    ensures open { IsTrue (is_open door.new.history) }
+    ensures history { door.new.history ≡ door.old.history ++ called who (calls.Get (name_text name.now)) answers.Absent ∷ [] }
+{
+    let found = door.get(who, name).expect(rt, "an answer");
+    assert!(rt; found.is_none());
+}
+
+/// A claim of a UUID that nobody holds.
+fn take(rt: &impl Abort, door: &mut Door<MemKeeper>, who: Caller, uuid: Uuid)
+    requires { IsTrue (is_open door.old.history) }
+    ensures open { IsTrue (is_open door.new.history) }
+    ensures history { door.new.history ≡ door.old.history ++ claimed who uuid ∷ [] }
+{
+    assert!(rt; door.holder(uuid).is_none());
+    door.claim(who, uuid).expect(rt, "claimed");
+}
+
+/// Claims a UUID, and finds neither a record nor a marker of it.
+fn look(rt: &impl Abort, door: &mut Door<MemKeeper>, who: Caller, uuid: Uuid)
+    requires { IsTrue (is_open door.old.history) }
+    ensures open { IsTrue (is_open door.new.history) }
+    ensures history { door.new.history ≡ door.old.history ++ claimed who uuid ∷ [] ++ called who (calls.Get (record_name uuid)) answers.Absent ∷ [] ++ called who (calls.Get (marker_name uuid)) answers.Absent ∷ [] }
+{
+    take(rt, door, who, uuid);
+    find_nothing(rt, door, who, &Name::CommitOf { uuid });
+    find_nothing(rt, door, who, &Name::RetiredOf { uuid });
+}
+
+/// An id of a time.
+fn id_of(time: u64, uuid: u128) -> TxnId
+    ensures { result.time ≡ time }
+{
+    TxnId {
+        time,
+        uuid: Uuid::from_u128(uuid),
+    }
+}
+
+/// What the type of an id tells a proof of it.
+fn id_fits(id: &TxnId)
+    ensures { IsWritableId id.now }
+{
+    let _time = id.time;
+    uuid_bytes(&id.uuid);
+}
+
+/// What the type of a version tells a proof of it.
+fn version_fits(version: &Version)
+    requires short { length version.now.value ≤ 4096 }
+    requires timely { IsTime version.now.id.time }
+    ensures { IsVersion version.now }
+{
+    id_fits(&version.id);
+    version.key.bytes();
+}
+
+/// A version of a key without bytes.
+fn empty_version(rt: &impl Abort, alloc: Global, id: &TxnId, key: &Key) -> Version
+    ensures { result ≡ record { id = id.now; key = key.now; value = [] } }
+{
+    let key = key.clone().expect(rt, "memory");
+    let value = Bytes::from_vec(Vec::new(alloc));
+    Version {
+        id: *id,
+        key,
+        value,
+    }
+}
+
+/// A put of a version.
+fn put_version(rt: &impl Abort, door: &mut Door<MemKeeper>, who: Caller, version: &Version)
+    requires open { IsTrue (is_open door.old.history) }
+    requires unused { IsTrue (knows_unused (who_calls who) version.now.id.uuid door.old.history) }
+    requires timely { IsTime version.now.id.time }
+    requires short { length version.now.value ≤ 4096 }
+    ensures open { IsTrue (is_open door.new.history) }
+    ensures fits { IsVersion version.now }
+    ensures history { door.new.history ≡ door.old.history ++ called who (calls.Put (version_name version.now.key version.now.id) (version_row version.now)) answers.Done ∷ [] }
+{
+    version_fits(version);
+    door.put_version(who, version).expect(rt, "stored");
+}
+
+/// Claims a UUID, finds it unused, and puts the version of its commit's one key.
+fn store(
+    rt: &impl Abort,
+    alloc: Global,
+    door: &mut Door<MemKeeper>,
+    who: Caller,
+    id: &TxnId,
+    key: &Key,
+)
+    requires open { IsTrue (is_open door.old.history) }
+    requires timely { IsTime id.now.time }
+    ensures open { IsTrue (is_open door.new.history) }
+    ensures stored { IsTrue (knows_stored (who_calls who) (record { id = id.now; keys = key.now ∷ [] }) door.new.history) }
+{
+    look(rt, door, who, id.uuid);
+    let version = empty_version(rt, alloc, id, key);
+    put_version(rt, door, who, &version);
+}
+
+/// A commit of one key.
+fn commit_of(rt: &impl Abort, alloc: Global, id: &TxnId, key: &Key) -> Commit
+    ensures value { result ≡ record { id = id.now; keys = key.now ∷ [] } }
+    ensures fits { IsWritableCommit result }
+{
+    id_fits(id);
+    let mut keys = Vec::new(alloc);
+    let key = key.clone().expect(rt, "memory");
+    keys.push(key).expect(rt, "memory");
+    let keys = Keys::new(List::from_vec(keys)).expect(rt, "a key");
+    keys.list();
+    Commit { id: *id, keys }
+}
+
+/// The record of a commit, by a caller that read nothing.
+fn record_of(alloc: Global, who: Caller, commit: Commit) -> Record
+    ensures { result ≡ record { commit = commit; origin = record { node = who.node; inc = who.inc; reads = [] } } }
+{
+    let reads = List::from_vec(Vec::new(alloc));
+    let origin = Origin {
+        node: who.node,
+        inc: who.inc,
+        reads,
+    };
+    Record { commit, origin }
+}
+
+/// A put of a record by a node.
+fn put_record(rt: &impl Abort, door: &mut Door<MemKeeper>, who: Caller, written: &Record)
+    requires open { IsTrue (is_open door.old.history) }
+    requires node { who.node ≢ 0 }
+    requires own { incarnation written.now.origin.node written.now.origin.inc ≡ who_calls who }
+    requires stored { IsTrue (knows_stored (who_calls who) written.now.commit door.old.history) }
+    requires timely { IsTime written.now.commit.id.time }
+    requires origin { IsTrue (is_origin written.now.origin.node written.now.origin.inc (length written.now.origin.reads)) }
+    requires reads { AreReads written.now.origin.reads }
+    ensures open { IsTrue (is_open door.new.history) }
+    ensures history { door.new.history ≡ door.old.history ++ called who (calls.Put (record_name written.now.commit.id.uuid) (record_row written.now)) answers.Done ∷ [] }
+{
+    door.put_record(who, written).expect(rt, "recorded");
+}
+
+/// Commits one key by incarnation 1 of node 1.
+fn commit(rt: &impl Abort, alloc: Global, door: &mut Door<MemKeeper>, id: &TxnId, key: &Key)
+    requires open { IsTrue (is_open door.old.history) }
+    requires timely { IsTime id.now.time }
+    ensures open { IsTrue (is_open door.new.history) }
+    ensures committed { Committed (record { id = id.now; keys = key.now ∷ [] }) door.new.history }
+{
+    let who = caller(1);
+    store(rt, alloc, door, who, id, key);
+    let record = record_of(alloc, who, commit_of(rt, alloc, id, key));
+    put_record(rt, door, who, &record);
+}
+
+#[test]
+fn commits(rt: HostRuntime) {
+    let alloc = rt.alloc();
+    let mut door = open_door(&rt, alloc);
+    come_up(&rt, &mut door, 1);
+    let key = Key::new(alloc, b"x").expect(&rt, "a key");
+    let id = id_of(1000, 1);
+    commit(&rt, alloc, &mut door, &id, &key);
+    assert!(rt; door.len() == 9);
+    assert!(rt; door.put_since(id.uuid, 7) && !door.put_since(id.uuid, 8));
+    let page = door.scan(caller(1), "c/", "", 64).expect(&rt, "a page");
+    let record = record_of(alloc, caller(1), commit_of(&rt, alloc, &id, &key));
+    let bytes = record.encode(alloc).expect(&rt, "memory");
+    let name = Name::CommitOf { uuid: id.uuid };
+    let found = door.get(caller(1), &name).expect(&rt, "an answer");
+    let found = found.expect(&rt, "a record");
+    assert!(rt; *found.as_slice() == *bytes.as_slice());
+    assert!(rt; page.as_slice().len() == 1);
+    let pair = page.as_slice().get(0).expect(&rt, "a pair");
+    assert!(rt; *pair.bytes.as_slice() == *bytes.as_slice());
+}
+
+fn copied(id: &TxnId) -> TxnId
+    ensures { result ≡ id.now }
+{
+    *id
+}
+
+/// A release of a UUID that the caller holds.
+fn let_go(rt: &impl Abort, door: &mut Door<MemKeeper>, who: Caller, uuid: Uuid)
+    requires { IsTrue (is_open door.old.history) }
+    ensures open { IsTrue (is_open door.new.history) }
+    ensures history { door.new.history ≡ door.old.history ++ released who uuid ∷ [] }
+{
+    door.release(who, uuid).expect(rt, "released");
+}
+
+/// Claims the UUID of an id for the office, and finds neither a record nor a marker of it. Gives the place of the claim.
+fn look_for_orphan(rt: &impl Abort, door: &mut Door<MemKeeper>, id: &TxnId) -> u64
+    requires { IsTrue (is_open door.old.history) }
+    ensures open { IsTrue (is_open door.new.history) }
+    ensures orphan { IsTrue (knows_orphan id.now result door.new.history) }
+{
+    let place = door.len();
+    look(rt, door, caller(0), id.uuid);
+    place
+}
+
+/// A delete of an orphan's version.
+fn delete_orphan(rt: &impl Abort, door: &mut Door<MemKeeper>, key: &Key, id: &TxnId, place: u64)
+    requires open { IsTrue (is_open door.old.history) }
+    requires orphan { IsTrue (knows_orphan id.now place door.old.history) }
+    requires timely { IsTime id.now.time }
+    ensures open { IsTrue (is_open door.new.history) }
+    ensures history { door.new.history ≡ door.old.history ++ called (record { node = 0; inc = 1; by = record { client = 1; line = 1 } }) (calls.Delete (version_name key.now id.now)) answers.Done ∷ [] }
+{
+    door.delete_orphan(caller(0), key, copied(id), place)
+        .expect(rt, "deleted");
+}
+
+/// Deletes an orphan's version while the office holds its UUID, and not once it has let that go.
+fn clear_orphan(rt: &impl Abort, door: &mut Door<MemKeeper>, key: &Key, id: &TxnId, place: u64)
+    requires open { IsTrue (is_open door.old.history) }
+    requires orphan { IsTrue (knows_orphan id.now place door.old.history) }
+    requires timely { IsTime id.now.time }
+{
+    delete_orphan(rt, door, key, id, place);
+    let_go(rt, door, caller(0), id.uuid);
+    let other = door.delete_orphan(caller(0), key, copied(id), place);
+    assert!(rt; other == Err(DoorFault::NotHolder));
+}
+
+#[test]
+fn orphans(rt: HostRuntime) {
+    let alloc = rt.alloc();
+    let mut door = open_door(&rt, alloc);
+    come_up(&rt, &mut door, 1);
+    let key = Key::new(alloc, b"x").expect(&rt, "a key");
+    let id = id_of(1000, 1);
+    store(&rt, alloc, &mut door, caller(1), &id, &key);
+    let_go(&rt, &mut door, caller(1), id.uuid);
+    let place = look_for_orphan(&rt, &mut door, &id);
+    assert!(rt; door.claim_place(id.uuid) == Some(place));
+    clear_orphan(&rt, &mut door, &key, &id, place);
+    let (keeper, _) = door.close();
+    assert!(rt; keeper.contents().is_empty());
+}
+
+/// A put of a version that the store fails.
+fn fail_put(rt: &impl Abort, door: &mut Door<MemKeeper>, who: Caller, version: &Version)
+    requires open { IsTrue (is_open door.old.history) }
+    requires unused { IsTrue (knows_unused (who_calls who) version.now.id.uuid door.old.history) }
+    requires timely { IsTime version.now.id.time }
+    requires short { length version.now.value ≤ 4096 }
+{
+    let failed = door.put_version(who, version);
+    assert!(rt; failed == Err(DoorFault::Failed));
+}
+
+/// Claims a UUID, finds it unused, and puts a version that the store fails.
+fn store_failing(rt: &impl Abort, alloc: Global, door: &mut Door<MemKeeper>, id: &TxnId)
+    requires open { IsTrue (is_open door.old.history) }
+    requires timely { IsTime id.now.time }
+{
+    let key = Key::new(alloc, b"x").expect(rt, "a key");
+    let who = caller(1);
+    look(rt, door, who, id.uuid);
+    let version = empty_version(rt, alloc, id, &key);
+    fail_put(rt, door, who, &version);
+}
+
+/// How many pairs a store holds, whose fifth call is a put that fails.
+fn pairs_behind(rt: &impl Abort, alloc: Global, after: bool) -> usize {
+    let mut fails = Vec::new(alloc);
+    fails.push(Fail { call: 5, after }).expect(rt, "memory");
+    let mut door = open_over(rt, alloc, List::from_vec(fails));
+    come_up(rt, &mut door, 1);
+    store_failing(rt, alloc, &mut door, &id_of(1000, 1));
+    assert!(rt; door.len() == 8);
+    let (keeper, _) = door.close();
+    keeper.contents().len()
+}
+
+#[test]
+fn puts_fail(rt: HostRuntime) {
+    assert!(rt; pairs_behind(&rt, rt.alloc(), false) == 0);
+    assert!(rt; pairs_behind(&rt, rt.alloc(), true) == 1);
+}
+
+#[test]
+fn fails(rt: HostRuntime) {
+    let alloc = rt.alloc();
+    let mut fails = Vec::new(alloc);
+    let third = Fail {
+        call: 3,
+        after: false,
+    };
+    fails.push(third).expect(&rt, "memory");
+    let mut door = open_over(&rt, alloc, List::from_vec(fails));
+    let uuid = Uuid::from_u128(1);
+    let name = Name::CommitOf { uuid };
+    let failed = door.get(caller(0), &name);
+    assert!(rt; matches!(failed, Err(DoorFault::Failed)));
+    assert!(rt; door.len() == 4);
+}
+
+#[test]
+fn finds_nothing(rt: HostRuntime) {
+    let mut door = open_door(&rt, rt.alloc());
+    let uuid = Uuid::from_u128(1);
+    let found = door.get(caller(0), &Name::CommitOf { uuid });
+    assert!(rt; matches!(found, Ok(None)));
+    assert!(rt; door.len() == 4);
 }

@@ -11,7 +11,7 @@ ghost use Rattle.aft_model.specs.Opening.{may_open};
 
 use crate::door::Door;
 use crate::fault::DoorFault;
-use aft_id::{Memory, TxnId};
+use aft_id::TxnId;
 use aft_keeper::Keeper;
 use aft_model::{By, Caller};
 use uuid::Uuid;
@@ -19,9 +19,10 @@ use uuid::Uuid;
 impl<K: Keeper> Door<K> {
     /// Ends the opening. The caller has read all records, all markers and each version of each record, and found them sound.
     /// After `Memory`, which alone refuses it, the door is as before.
-    pub fn opened(&mut self, by: By) -> Result<(), Memory>
+    pub fn opened(&mut self, by: By) -> Result<(), DoorFault>
         requires closed { IsFalse (is_open self.old.history) }
         requires sound { IsTrue (may_open self.old.history (door_opened by)) }
+        ensures refused { RefusedBy None result }
         ensures ok { OnOk result (self.new ≡ with_entry self.old (door_opened by)) }
         ensures err { OnErr result (self.new ≡ self.old) }
     {
@@ -30,8 +31,8 @@ impl<K: Keeper> Door<K> {
         Ok(())
     }
 
-    /// Lets an incarnation of a node come up, of which no other one is up. One that is up already stays so, and makes no
-    /// entry.
+    /// Lets an incarnation of a node come up, of which no other one is up. One that is up already stays so, which is `Ok`,
+    /// takes no memory and makes no entry.
     ///
     /// `Fenced` comes exactly where an incarnation of this number or a greater one of the node was fenced, and then
     /// `Memory`. After a refusal the door is as before.
@@ -39,14 +40,15 @@ impl<K: Keeper> Door<K> {
         requires open { IsTrue (is_open self.old.history) }
         requires alone { IfSome (up_now node self.old.history) (λ other. other ≡ inc) }
         ensures refused { RefusedBy (if_past node inc self.old.history) result }
-        ensures again { up_now node self.old.history ≡ Some inc → self.new ≡ self.old }
+        ensures again { up_now node self.old.history ≡ Some inc → (result ≡ Ok tt) × (self.new ≡ self.old) }
         ensures ok { OnOk result (up_now node self.old.history ≡ None → self.new ≡ with_entry self.old (came_up by node inc)) }
         ensures err { OnErr result (self.new ≡ self.old) }
     {
-        self.ledger.test_new(node, inc)?;
+        self.ledger.law();
         if self.ledger.up_now(node).is_some() {
             return Ok(());
         }
+        self.ledger.test_new(node, inc)?;
         self.ledger.make_room()?;
         self.ledger.add_up(by, node, inc);
         Ok(())
@@ -79,7 +81,7 @@ impl<K: Keeper> Door<K> {
     {
         self.ledger.test_up(who)?;
         self.ledger.test_free(&uuid)?;
-        self.ledger.test_known(&uuid)?;
+        self.ledger.test_not_forgotten(&uuid)?;
         self.ledger.make_room()?;
         self.ledger.add_claim(who, uuid);
         Ok(())

@@ -88,7 +88,7 @@ impl<K: Keeper> Door<K> {
     }
 
     /// Deletes the short marker of an id, for the caller's incarnation, which has claimed its UUID and then found it. The UUID is
-    /// forgotten from then on, whatever is answered.
+    /// forgotten once the store was asked, whatever it answers.
     ///
     /// `Fenced` comes exactly where the caller's incarnation isn't up, then `NotHolder` exactly where it doesn't hold the UUID,
     /// then `Memory`, and `Failed` exactly where the store failed. After a refusal but `Failed` the door is as before.

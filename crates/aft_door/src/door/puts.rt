@@ -121,18 +121,16 @@ impl<K: Keeper> Door<K> {
     /// Puts the record of a commit in the second format, for the office, in place of one of the first format that was shown.
     /// Nobody but the office has come up, and nothing was deleted.
     ///
-    /// `Fenced` comes exactly where the caller isn't up, then `Memory`, and `Failed` exactly where the store failed. After a refusal
-    /// but `Failed` the door is as before.
+    /// `Failed` comes exactly where the store failed, and besides it only `Memory`, behind which the door is as before.
     pub fn put_upgrade(&mut self, who: Caller, commit: &Commit) -> Result<(), DoorFault>
         requires office { who_calls who ≡ the_office }
         requires old { IsTrue (shows_first_format commit.now self.old.history) }
         requires untouched { IsTrue (is_untouched self.old.history) }
-        ensures refused { RefusedOrFailed (if_fenced who self.old.history) result }
+        ensures refused { RefusedOrFailed None result }
         ensures asks { Asks self.old who (calls.Put (record_name commit.now.id.uuid) (record_row (upgraded commit.now))) (told_done result) self.new }
         ensures cause { HasCause (IsErrOf result DoorFault.Failed) self.old.faults self.new.faults }
     {
         self.ledger.law();
-        self.ledger.test_up(who)?;
         commit_fits(commit);
         let name = record_text(self.alloc, commit.id.uuid)?;
         let bytes = upgraded_record(self.alloc, commit)?;

@@ -1,8 +1,6 @@
 //! The ways to ask the store: each call has its entry, with the store's answer.
 
 ghost use Rattle.std.specs.Prelude.{◌≡◌, ◌≢◌, ℕ, [], IfErr, IfOk, IsErrOf, IsTrue, List, None, Some, false};
-ghost use Rattle.std.specs.List.{list_all};
-ghost use Rattle.aft_model.specs.Bytes.{is_byte_pair};
 ghost use Rattle.std.specs.Str.{bytes_eq};
 ghost use Rattle.aft_keeper.specs.Cause.{HasCause};
 ghost use Rattle.aft_door.specs.Calls.{Asks, Shows, may_ask, told_done, told_found, told_page};
@@ -14,11 +12,11 @@ ghost use Rattle.aft_model.specs.Membership.{is_up};
 ghost use Rattle.aft_model.specs.Readings.{marker_name, record_name};
 ghost use Rattle.aft_records.specs.Names.{name_text};
 
-use crate::asked::{bytes_fit, text_fits};
 use crate::door::Door;
+use crate::door::told::{done_told, found_told, page_told};
 use crate::fault::DoorFault;
 use aft_id::{Bytes, List, Text};
-use aft_keeper::{Keeper, KeeperAnswer, KeeperCall, KeeperFault, Pair};
+use aft_keeper::{Keeper, KeeperCall, Pair};
 use aft_model::Caller;
 use aft_records::Name;
 use std::alloc::Global;
@@ -28,7 +26,7 @@ impl<K: Keeper> Door<K> {
     /// The bytes under a name, or `None` where there are none.
     ///
     /// `Fenced` comes exactly where the caller's incarnation isn't up, then `Memory`, and `Failed` exactly where the store failed.
-    /// Memory may run out behind the store's answer too: then the call has its entry, and its answer isn't told. After any other
+    /// Memory may run out behind what was found too: then the call has its entry, and its answer isn't told. After any other
     /// refusal but `Failed` the door is as before.
     pub fn get(&mut self, who: Caller, name: &Name) -> Result<Option<Bytes>, DoorFault>
         requires { IsTrue (may_ask who (KeeperCall.Get (name_text name.now)) self.old.history) }
@@ -39,29 +37,15 @@ impl<K: Keeper> Door<K> {
         self.ledger.test_up(who)?;
         let name = name.write(self.alloc)?;
         self.ledger.make_room()?;
-        match self.keeper.get(name.as_str()) {
-            Err(KeeperFault::Memory) => Err(DoorFault::Memory),
-            Err(KeeperFault::Failed) => {
-                self.ledger.add_get(who, name, KeeperAnswer::Failed);
-                Err(DoorFault::Failed)
-            }
-            Ok(None) => {
-                self.ledger.add_get(who, name, KeeperAnswer::Absent);
-                Ok(None)
-            }
-            Ok(Some(bytes)) => {
-                bytes_fit(&bytes);
-                let copy = found_copy(&bytes);
-                self.ledger.add_get(who, name, KeeperAnswer::Found(bytes));
-                copy
-            }
-        }
+        let (answer, told) = found_told(self.keeper.get(name.as_str()))?;
+        self.ledger.add_get(who, name, answer);
+        told
     }
 
     /// The first pairs, at most `limit`, whose names begin with `prefix` and are greater than `after`, ascending by name.
     ///
     /// `Fenced` comes exactly where the caller's incarnation isn't up, then `Memory`, and `Failed` exactly where the store failed.
-    /// Memory may run out behind the store's answer too: then the call has its entry, and its answer isn't told. After any other
+    /// Memory may run out behind what was listed too: then the call has its entry, and its answer isn't told. After any other
     /// refusal but `Failed` the door is as before.
     pub fn scan(
         &mut self,
@@ -79,21 +63,10 @@ impl<K: Keeper> Door<K> {
         let scanned = text_of(self.alloc, prefix)?;
         let from = text_of(self.alloc, after)?;
         self.ledger.make_room()?;
-        match self.keeper.scan(prefix, after, limit) {
-            Err(KeeperFault::Memory) => Err(DoorFault::Memory),
-            Err(KeeperFault::Failed) => {
-                let answer = KeeperAnswer::Failed;
-                self.ledger.add_scan(who, scanned, from, limit, answer);
-                Err(DoorFault::Failed)
-            }
-            Ok(page) => {
-                page_fits(&page);
-                let copy = page_copy(self.alloc, &page);
-                let answer = KeeperAnswer::Page(page);
-                self.ledger.add_scan(who, scanned, from, limit, answer);
-                copy
-            }
-        }
+        let page = self.keeper.scan(prefix, after, limit);
+        let (answer, told) = page_told(self.alloc, page)?;
+        self.ledger.add_scan(who, scanned, from, limit, answer);
+        told
     }
 
     /// Puts what is no record, by its rule.
@@ -108,17 +81,9 @@ impl<K: Keeper> Door<K> {
         ensures cause { HasCause (IsErrOf result DoorFault.Failed) self.old.faults self.new.faults }
     {
         self.ledger.make_room()?;
-        match self.keeper.put(name.as_str(), bytes.as_slice()) {
-            Err(KeeperFault::Memory) => Err(DoorFault::Memory),
-            Err(KeeperFault::Failed) => {
-                self.ledger.add_put(who, name, bytes, KeeperAnswer::Failed);
-                Err(DoorFault::Failed)
-            }
-            Ok(()) => {
-                self.ledger.add_put(who, name, bytes, KeeperAnswer::Done);
-                Ok(())
-            }
-        }
+        let (answer, told) = done_told(self.keeper.put(name.as_str(), bytes.as_slice()))?;
+        self.ledger.add_put(who, name, bytes, answer);
+        told
     }
 
     /// Puts a record of a UUID, by its rule.
@@ -139,19 +104,9 @@ impl<K: Keeper> Door<K> {
         ensures cause { HasCause (IsErrOf result DoorFault.Failed) self.old.faults self.new.faults }
     {
         self.ledger.make_room()?;
-        match self.keeper.put(name.as_str(), bytes.as_slice()) {
-            Err(KeeperFault::Memory) => Err(DoorFault::Memory),
-            Err(KeeperFault::Failed) => {
-                let answer = KeeperAnswer::Failed;
-                self.ledger.add_record(who, uuid, name, bytes, answer);
-                Err(DoorFault::Failed)
-            }
-            Ok(()) => {
-                let answer = KeeperAnswer::Done;
-                self.ledger.add_record(who, uuid, name, bytes, answer);
-                Ok(())
-            }
-        }
+        let (answer, told) = done_told(self.keeper.put(name.as_str(), bytes.as_slice()))?;
+        self.ledger.add_record(who, uuid, name, bytes, answer);
+        told
     }
 
     /// Deletes what is no marker, by its rule.
@@ -165,17 +120,9 @@ impl<K: Keeper> Door<K> {
         ensures cause { HasCause (IsErrOf result DoorFault.Failed) self.old.faults self.new.faults }
     {
         self.ledger.make_room()?;
-        match self.keeper.delete(name.as_str()) {
-            Err(KeeperFault::Memory) => Err(DoorFault::Memory),
-            Err(KeeperFault::Failed) => {
-                self.ledger.add_delete(who, name, KeeperAnswer::Failed);
-                Err(DoorFault::Failed)
-            }
-            Ok(()) => {
-                self.ledger.add_delete(who, name, KeeperAnswer::Done);
-                Ok(())
-            }
-        }
+        let (answer, told) = done_told(self.keeper.delete(name.as_str()))?;
+        self.ledger.add_delete(who, name, answer);
+        told
     }
 
     /// Deletes the marker of a UUID, by its rule.
@@ -194,18 +141,9 @@ impl<K: Keeper> Door<K> {
         ensures cause { HasCause (IsErrOf result DoorFault.Failed) self.old.faults self.new.faults }
     {
         self.ledger.make_room()?;
-        match self.keeper.delete(name.as_str()) {
-            Err(KeeperFault::Memory) => Err(DoorFault::Memory),
-            Err(KeeperFault::Failed) => {
-                self.ledger
-                    .add_forget(who, uuid, name, KeeperAnswer::Failed);
-                Err(DoorFault::Failed)
-            }
-            Ok(()) => {
-                self.ledger.add_forget(who, uuid, name, KeeperAnswer::Done);
-                Ok(())
-            }
-        }
+        let (answer, told) = done_told(self.keeper.delete(name.as_str()))?;
+        self.ledger.add_forget(who, uuid, name, answer);
+        told
     }
 }
 
@@ -215,38 +153,4 @@ fn text_of(alloc: Global, text: &str) -> Result<Text, DoorFault>
     ensures err { IfErr result (λ fault. fault ≡ DoorFault.Memory) }
 {
     Ok(Text::from_string(String::from_str(alloc, text)?))
-}
-
-/// A copy of the bytes that a get found.
-fn found_copy(bytes: &Bytes) -> Result<Option<Bytes>, DoorFault>
-    ensures ok { IfOk result (λ copy. copy ≡ Some bytes.now) }
-    ensures err { IfErr result (λ fault. fault ≡ DoorFault.Memory) }
-{
-    Ok(Some(bytes.clone()?))
-}
-
-/// A copy of a page.
-fn page_copy(alloc: Global, page: &List<Pair>) -> Result<List<Pair>, DoorFault>
-    ensures ok { IfOk result (λ copy. copy ≡ page.now) }
-    ensures err { IfErr result (λ fault. fault ≡ DoorFault.Memory) }
-{
-    let pairs = page.as_slice();
-    let mut copies = Vec::new(alloc);
-    for pair in pairs {
-        let name = pair.name.clone()?;
-        let bytes = pair.bytes.clone()?;
-        copies.push(Pair { name, bytes })?;
-    }
-    Ok(List::from_vec(copies))
-}
-
-/// A page is made of bytes.
-fn page_fits(page: &List<Pair>)
-    ensures { IsTrue (list_all is_byte_pair page.now) }
-{
-    let pairs = page.as_slice();
-    for pair in pairs {
-        text_fits(&pair.name);
-        bytes_fit(&pair.bytes);
-    }
 }

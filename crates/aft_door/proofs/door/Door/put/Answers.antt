@@ -1,17 +1,25 @@
 use Rattle.std.proofs.Common.{ℕ, List, refl, subst}
-use Rattle.std.specs.Prelude.{Err}
-use Rattle.aft_keeper.specs.Calls.{ChangesBy}
+use Rattle.std.specs.Prelude.{Some}
+use Rattle.aft_keeper.specs.Calls.{ChangesBy, done_answer}
 use Rattle.aft_keeper.specs.Contents.{with_pair}
-use Rattle.aft_keeper.specs.declared.keeper.KeeperFault.TheVariants.{Failed}
-use Rattle.aft_door.proofs.Went.{put_failed}
+use Rattle.aft_keeper.specs.declared.keeper.KeeperCall.TheVariants.{Put}
+use Rattle.aft_door.proofs.Along.{asked_on}
+use Rattle.aft_door.proofs.Went.{asked_so, asks_told, put_goes}
 use Rattle.aft_door.proofs.door.Door.put.Goals as goal
 
-pub returns-in-Err-Failed-clause-asks : goal.returns-in-Err-Failed-clause-asks
-returns-in-Err-Failed-clause-asks g c =
-    let e = rw c.in-Err-Failed.field-0-is at c.in-Err-Failed.ensures in
-    rw (← c.self.view_is) (record {
-      history = rw (c.add_put.ensures, c.make_room.ensures.history) refl;
-      log = cc (e.log, c.as_str.ensures, c.as_slice.ensures);
-      contents = put_failed (g.K.Keeper.contents c.self.inside.keeper) (g.K.Keeper.contents c.put.new.self) c.args.who c.args.name c.args.bytes
-          (subst (λ (n : List ℕ). ChangesBy {T = Unit} (with_pair n c.args.bytes) (g.K.Keeper.contents c.self.inside.keeper) (Err Failed) (g.K.Keeper.contents c.put.new.self)) c.as_str.ensures (subst (λ (b : List ℕ). ChangesBy {T = Unit} (with_pair c.as_str.result.now b) (g.K.Keeper.contents c.self.inside.keeper) (Err Failed) (g.K.Keeper.contents c.put.new.self)) c.as_slice.ensures e.contents));
-    })
+pub invariant_of-self-2 : goal.invariant_of-self-2
+invariant_of-self-2 g c =
+    asked_on _ _ c.args.who (Put c.args.name c.args.bytes) (Some c.in_ok-answer.answer)
+    (asked_so _ _ c.args.who (Put c.args.name c.args.bytes) (done_answer c.put.result) (Some c.in_ok-answer.answer) c.in_ok-answer.ensures.answer (rw (c.add_put.ensures, c.make_room.ensures.history) refl) (cc (c.put.ensures.log, c.as_str.ensures, c.as_slice.ensures))
+    (put_goes (g.K.Keeper.contents c.self.inside.keeper) (g.K.Keeper.contents c.put.new.self) c.args.who c.args.name c.args.bytes c.put.result
+    (subst (λ (n : List ℕ). ChangesBy {T = Unit} (with_pair n c.args.bytes) (g.K.Keeper.contents c.self.inside.keeper) c.put.result (g.K.Keeper.contents c.put.new.self)) c.as_str.ensures (subst (λ (b : List ℕ). ChangesBy {T = Unit} (with_pair c.as_str.result.now b) (g.K.Keeper.contents c.self.inside.keeper) c.put.result (g.K.Keeper.contents c.put.new.self)) c.as_slice.ensures c.put.ensures.contents)))
+    refl refl)
+    c.self.invariant
+
+pub returns-clause-asks : goal.returns-clause-asks
+returns-clause-asks g c =
+    rw (← c.self.view_is) (asks_told _ _ c.args.who (Put c.args.name c.args.bytes) _ (Some c.in_ok-answer.answer) c.in_ok-answer.ensures.told
+    (asked_so _ _ c.args.who (Put c.args.name c.args.bytes) (done_answer c.put.result) (Some c.in_ok-answer.answer) c.in_ok-answer.ensures.answer (rw (c.add_put.ensures, c.make_room.ensures.history) refl) (cc (c.put.ensures.log, c.as_str.ensures, c.as_slice.ensures))
+    (put_goes (g.K.Keeper.contents c.self.inside.keeper) (g.K.Keeper.contents c.put.new.self) c.args.who c.args.name c.args.bytes c.put.result
+    (subst (λ (n : List ℕ). ChangesBy {T = Unit} (with_pair n c.args.bytes) (g.K.Keeper.contents c.self.inside.keeper) c.put.result (g.K.Keeper.contents c.put.new.self)) c.as_str.ensures (subst (λ (b : List ℕ). ChangesBy {T = Unit} (with_pair c.as_str.result.now b) (g.K.Keeper.contents c.self.inside.keeper) c.put.result (g.K.Keeper.contents c.put.new.self)) c.as_slice.ensures c.put.ensures.contents)))
+    refl refl))

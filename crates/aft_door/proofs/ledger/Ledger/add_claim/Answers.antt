@@ -15,4 +15,4 @@ invariant_of-self c =
     let entries = r.entries in
     let n = length-append i.history.items (e ∷ []) in
     let grown = at_most_one c.insert-claim.result (length i.claims.entries) (length c.insert-claim.new.self.entries) (sym c.is_ok.ensures.value ∙ c.if-prove.false) c.insert-claim.ensures.len in
-    rw c.add.ensures.items (claim_added i.history.items i.is_open i.ups.entries i.fenced.entries i.claims.entries i.forgotten.keys i.puts.entries i.given.keys (vec_capacity i.history) (spare i.fenced) l (vec_capacity c.add.new.history) c.count-place.result c.args.who c.args.uuid c.insert-claim.new.self.entries (may_in i c.args.self.now c.self.view_is e c.requires.legal) c.uuid_bytes.ensures.bytes c.count-place.ensures (on_ok _ c.insert-claim.result (sym c.is_ok.ensures.value ∙ c.if-prove.false) c.insert-claim.ensures.updates).0 (omega arith))
+    rw c.add.ensures.items (claim_added i.history.items i.ups.entries i.fenced.entries i.claims.entries i.forgotten.keys i.puts.entries i.given.keys (vec_capacity i.history) (spare i.fenced) l (vec_capacity c.add.new.history) c.count-place.result c.args.who c.args.uuid c.insert-claim.new.self.entries (may_in i c.args.self.now c.self.view_is e c.requires.legal) c.uuid_bytes.ensures.bytes c.count-place.ensures (on_ok _ c.insert-claim.result (sym c.is_ok.ensures.value ∙ c.if-prove.false) c.insert-claim.ensures.updates).0 (omega arith))

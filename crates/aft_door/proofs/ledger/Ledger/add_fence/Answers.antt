@@ -20,4 +20,4 @@ invariant_of-self c =
     let more = c.add.ensures.capacity in
     let left = c.note_fenced.ensures.room in
     let noted = c.note_fenced.ensures.updates in
-    rw c.add.ensures.items (fence_added i.history.items i.is_open i.ups.entries i.fenced.entries i.claims.entries i.forgotten.keys i.puts.entries i.given.keys (vec_capacity i.history) (spare i.fenced) l (vec_capacity c.add.new.history) (spare c.note_fenced.new.fenced) c.args.by c.args.node c.args.inc c.swap_remove-up.new.self.entries c.note_fenced.new.fenced.entries noted.most (fence_follows i.history.items c.args.by c.args.node c.args.inc l.legal c.requires.node (subst (λ (v : LedgerView). up_now c.args.node v.history ≡ Some c.args.inc) (sym c.self.view_is) c.requires.up)) c.swap_remove-up.ensures.updates.0 noted.is noted.updates (omega arith) (omega arith))
+    rw c.add.ensures.items (fence_added i.history.items i.ups.entries i.fenced.entries i.claims.entries i.forgotten.keys i.puts.entries i.given.keys (vec_capacity i.history) (spare i.fenced) l (vec_capacity c.add.new.history) (spare c.note_fenced.new.fenced) c.args.by c.args.node c.args.inc c.swap_remove-up.new.self.entries c.note_fenced.new.fenced.entries noted.most (fence_follows i.history.items c.args.by c.args.node c.args.inc l.legal c.requires.node (subst (λ (v : LedgerView). up_now c.args.node v.history ≡ Some c.args.inc) (sym c.self.view_is) c.requires.up)) c.swap_remove-up.ensures.updates.0 noted.is noted.updates (omega arith) (omega arith))

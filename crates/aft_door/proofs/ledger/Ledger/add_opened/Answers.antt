@@ -10,4 +10,4 @@ invariant_of-self c =
     let i = c.self.inside in
     let l = c.self.invariant in
     let e = door_opened c.args.by in
-    rw c.add.ensures.items (opened_added i.history.items i.is_open i.ups.entries i.fenced.entries i.claims.entries i.forgotten.keys i.puts.entries i.given.keys (vec_capacity i.history) (spare i.fenced) l (vec_capacity c.add.new.history) c.args.by (may_in i c.args.self.now c.self.view_is e c.requires.legal) (room_for i c.args.self.now c.self.view_is e (vec_capacity c.add.new.history) c.requires.room c.add.ensures.capacity))
+    rw c.add.ensures.items (opened_added i.history.items i.ups.entries i.fenced.entries i.claims.entries i.forgotten.keys i.puts.entries i.given.keys (vec_capacity i.history) (spare i.fenced) l (vec_capacity c.add.new.history) c.args.by (may_in i c.args.self.now c.self.view_is e c.requires.legal) (room_for i c.args.self.now c.self.view_is e (vec_capacity c.add.new.history) c.requires.room c.add.ensures.capacity))

@@ -20,4 +20,4 @@ invariant_of-self c =
     let gone = one_less c.swap_remove-claim.result (length i.claims.entries) (length c.swap_remove-claim.new.self.entries) (sym c.is_some.ensures ∙ c.if-prove.false) c.swap_remove-claim.ensures.len in
     let room = l.room in
     let more = c.add.ensures.capacity in
-    rw c.add.ensures.items (release_added i.history.items i.is_open i.ups.entries i.fenced.entries i.claims.entries i.forgotten.keys i.puts.entries i.given.keys (vec_capacity i.history) (spare i.fenced) l (vec_capacity c.add.new.history) c.args.who c.args.uuid c.swap_remove-claim.new.self.entries (release_follows i.history.items c.args.who c.args.uuid l.legal (subst (λ (v : LedgerView). IsTrue (is_up (who_calls c.args.who) v.history)) (sym c.self.view_is) c.requires.up) (subst (λ (v : LedgerView). IsTrue (holds (who_calls c.args.who) c.args.uuid v.history)) (sym c.self.view_is) c.requires.held)) c.uuid_bytes.ensures.bytes c.swap_remove-claim.ensures.updates.0 (omega arith))
+    rw c.add.ensures.items (release_added i.history.items i.ups.entries i.fenced.entries i.claims.entries i.forgotten.keys i.puts.entries i.given.keys (vec_capacity i.history) (spare i.fenced) l (vec_capacity c.add.new.history) c.args.who c.args.uuid c.swap_remove-claim.new.self.entries (release_follows i.history.items c.args.who c.args.uuid l.legal (subst (λ (v : LedgerView). IsTrue (is_up (who_calls c.args.who) v.history)) (sym c.self.view_is) c.requires.up) (subst (λ (v : LedgerView). IsTrue (holds (who_calls c.args.who) c.args.uuid v.history)) (sym c.self.view_is) c.requires.held)) c.uuid_bytes.ensures.bytes c.swap_remove-claim.ensures.updates.0 (omega arith))

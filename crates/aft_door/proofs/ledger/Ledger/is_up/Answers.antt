@@ -5,5 +5,5 @@ use Rattle.aft_door.proofs.ledger.Ledger.is_up.Goals as goal
 
 pub returns : goal.returns
 returns c =
-    c.eq.ensures ∙ ap (λ (o : Option ℕ). option_eq nat_eq o (Some c.args.inc)) c.up_now.ensures.value
-    ∙ up_is c.args.self.now.history c.args.node c.args.inc c.up_now.ensures.one
+    c.eq.ensures ∙ ap (λ (o : Option ℕ). option_eq nat_eq o (Some c.args.inc)) c.up_now.ensures
+    ∙ up_is c.args.self.now.history c.args.node c.args.inc c.law.ensures.standing.one

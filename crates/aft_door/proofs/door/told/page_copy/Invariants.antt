@@ -1,5 +1,5 @@
 use Rattle.std.proofs.Common.{◌≡◌, take}
-use Rattle.aft_door.proofs.door.store.page_copy.Given as goal
+use Rattle.aft_door.proofs.door.told.page_copy.Given as goal
 
 abbrev pub invariant-loop-pair : goal.invariant-loop-pair
 invariant-loop-pair l = l.copies.items ≡ take l.pair-index l.pairs
