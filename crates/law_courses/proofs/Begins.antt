@@ -1,8 +1,8 @@
 -- What is left of a begin and of a forget.
-use Rattle.std.proofs.Common.{◌≡◌, ℕ, Bool, true, false, ◌&&◌, ◌||◌, not, eqb, List, [], ◌∷◌, refl, sym, ap, ◌∙◌, inl, inr}
+use Rattle.std.proofs.Common.{◌≡◌, ℕ, Bool, true, false, ◌&&◌, ◌||◌, List, [], ◌∷◌, refl, sym, ap, ◌∙◌}
 use Rattle.std.specs.Prelude.{IsTrue, Option, Some, None, if◌then◌else◌}
 use Rattle.std.specs.Str.{bytes_eq}
-use Rattle.std.proofs.lemmas.Bool.{and_parts, and_from, or_cases, or_left, or_right}
+use Rattle.std.proofs.lemmas.Bool.{and_parts, and_from}
 use Rattle.aft_keeper.specs.declared.keeper.KeeperAnswer.{KeeperAnswer}
 use Rattle.aft_keeper.specs.declared.keeper.KeeperCall.TheVariants as calls
 use Rattle.aft_model.specs.declared.caller.Attempt.{Attempt}
@@ -12,62 +12,21 @@ use Rattle.aft_model.specs.declared.node.NodeAct.TheVariants as acts
 use Rattle.aft_model.specs.declared.reply.Reply.{Reply}
 use Rattle.aft_model.specs.declared.script.Command.TheVariants.{Begin, Forget}
 use Rattle.aft_model.specs.Membership.{incarnation, same_incarnation}
-use Rattle.aft_model.specs.NodeState.{node_state}
 use Rattle.aft_model.specs.Readings.{marker_name, record_name}
-use Rattle.aft_lines.specs.Advance.{advance, allows, begun_with, behind_marker, behind_unused, claimed_by, closed_by, forgotten_by, got_by, if_nothing, is_led_to_end, leads_to, or_at, released_by}
+use Rattle.aft_lines.specs.Advance.{advance, allows, begun_with, behind_marker, behind_unused, claimed_by, closed_by, forgotten_by, got_by, if_nothing, is_led_to_end, leads_to, released_by}
 use Rattle.aft_lines.specs.BeginCourse.{Beginning, admitted_course, after_get, begin_course, begins_running, claim_course, ends_given_back, gets_own, gives_back, marker_course, record_course, release_begun}
-use Rattle.aft_lines.specs.CourseWords.{Ends, answers_down, any_answer, caller_of, closes, ends_at_node, ends_shut_out, finds_nothing, tells_down, tells_no_memory, tells_refused, tells_unclaimed}
+use Rattle.aft_lines.specs.CourseWords.{Ends, any_answer, caller_of, closes, ends_at_node, finds_nothing, tells_down, tells_no_memory, tells_refused, tells_unclaimed}
 use Rattle.aft_lines.specs.ForgetCourse.{after_marker, delete_course, finds_short, forget_course, short_course}
 use Rattle.aft_lines.specs.Progress.{Admitted, FoundNoRecord, FoundShort, FoundUnused, HasClaim, HasForgotten, HasReleased, MustRelease, AnyReason, NoRoom, Refusal, IsOver, Progress, Reason, Stopped}
 use Rattle.aft_lines.specs.Turns.{AtDoor, AtNode, AtOffice, Turn}
-use Rattle.law_courses.proofs.Ends.{led, led-closed, led-if, led-none, led-over}
+use Rattle.law_courses.proofs.Ends.{led, led-closed, led-from, led-if, led-none, led-or_last, led-or_more, led-over, led-shut_out}
+use Rattle.law_courses.proofs.Tests.{ends_within, no_memory_refused, or_absorbed, or_false}
 
 -- ---- tests
-
-and_comm : (a b : Bool) → (a && b) ≡ (b && a)
-and_comm true true = refl
-and_comm true false = refl
-and_comm false true = refl
-and_comm false false = refl
-
-and_false : (a : Bool) → (a && false) ≡ false
-and_false true = refl
-and_false false = refl
-
-or_false : (a : Bool) → (a || false) ≡ a
-or_false true = refl
-or_false false = refl
-
-and_assoc : (a b c : Bool) → ((a && b) && c) ≡ (a && (b && c))
-and_assoc true b c = refl
-and_assoc false b c = refl
-
--- a test beside one that it passes only where the other does
-or_absorbed : (a b : Bool) → (IsTrue b → IsTrue a) → (a || b) ≡ a
-or_absorbed true b within = refl
-or_absorbed false true within = sym (within refl)
-or_absorbed false false within = refl
-
--- an end by a test that passes where another does
-ends_within : (ends : Ends) (node inc : ℕ) (few many : NodeAct → Option Reply → Bool) → ((act : NodeAct) (answer : Option Reply) → IsTrue (few act answer) → IsTrue (many act answer)) → (line : List Turn)
-    → IsTrue (ends_at_node node (closes ends inc few) line) → IsTrue (ends_at_node node (closes ends inc many) line)
-ends_within ends node inc few many within [] is = is
-ends_within ends node inc few many within (AtDoor place act ∷ line) is = is
-ends_within ends node inc few many within (AtOffice before entry ∷ line) is = is
-ends_within ends node inc few many within (AtNode at before entry ∷ turn ∷ line) is = is
-ends_within ends node inc few many within (AtNode at before entry ∷ []) is =
-    let parts = and_parts _ (closes ends inc few (node_state before) entry) is in
-    and_from _ _ parts.0 (elim (or_cases (few entry.act entry.answer) (answers_down entry.act entry.answer && ends.is_left inc (node_state before)) parts.1) [
-      | inl passed ↦ or_left _ _ (within entry.act entry.answer passed)
-      | inr down ↦ or_right _ _ down
-    ])
 
 gives_within : (a : Attempt) (few many : Option Reply → Bool) → ((answer : Option Reply) → IsTrue (few answer) → IsTrue (many answer)) → (act : NodeAct) (answer : Option Reply) → IsTrue (gives_back a few act answer) → IsTrue (gives_back a many act answer)
 gives_within a few many within (acts.Unadmit b) answer is = (let parts = and_parts _ (few answer) is in and_from _ _ parts.0 (within answer parts.1))
 gives_within a few many within act answer is = absurd (cc)
-
-no_memory_refused : (answer : Option Reply) → IsTrue (tells_no_memory answer) → IsTrue (tells_refused answer)
-no_memory_refused answer is = or_right _ _ is
 
 module _ (ends : Ends) (begun : Beginning) where
   -- a release for want of memory is one that was refused
@@ -107,7 +66,7 @@ module _ (ends : Ends) (forgets : Bool) (step : Progress → Turn → Option Pro
 
   -- one turn from a position
   from : (position : Progress) (next : Option Progress) (turn : Turn) (line : List Turn) → step position turn ≡ next → at (Some position) (turn ∷ line) ≡ at next line
-  from position next turn line e = ap (λ (p : Option Progress). at p line) e
+  from = led-from step over stopped
 
   -- ---- the release
 
@@ -117,28 +76,11 @@ module _ (ends : Ends) (forgets : Bool) (step : Progress → Turn → Option Pro
       from (HasReleased begun reason) (closed_by ends begun.attempt (gives_back begun.attempt (allows reason)) turn) turn line (is.has_released begun reason turn)
       ∙ led-closed step over stopped ends begun.attempt (gives_back begun.attempt (allows reason)) turn line
 
-  -- an end without a release counts where the incarnation was shut out
-  shut_out : (turn : Turn) (line : List Turn)
-      → at (if ends_shut_out ends (caller_of begun.attempt) (turn ∷ []) then closed_by ends begun.attempt (gives_back begun.attempt tells_down) turn else None) line
-      ≡ (ends_given_back ends begun tells_down (turn ∷ line) && ends_shut_out ends (caller_of begun.attempt) (turn ∷ line))
-  shut_out turn line = guarded (ends_shut_out ends (caller_of begun.attempt) (turn ∷ [])) (closed_by ends begun.attempt (gives_back begun.attempt tells_down) turn) ∙ ap (λ (b : Bool). ends_shut_out ends (caller_of begun.attempt) (turn ∷ []) && b) (led-closed step over stopped ends begun.attempt (gives_back begun.attempt tells_down) turn line) ∙ last turn line
-    where
-      guarded : (b : Bool) (position : Option Progress) → at (if b then position else None) line ≡ (b && at position line)
-      guarded true position = refl
-      guarded false position = led-none step over stopped line
-
-      last : (turn : Turn) (line : List Turn) → (ends_shut_out ends (caller_of begun.attempt) (turn ∷ []) && ends_given_back ends begun tells_down (turn ∷ line))
-          ≡ (ends_given_back ends begun tells_down (turn ∷ line) && ends_shut_out ends (caller_of begun.attempt) (turn ∷ line))
-      last (AtDoor place act) line = refl
-      last (AtOffice before entry) line = refl
-      last (AtNode node before entry) [] = and_comm (ends_shut_out ends (caller_of begun.attempt) (AtNode node before entry ∷ [])) (ends_given_back ends begun tells_down (AtNode node before entry ∷ []))
-      last (AtNode node before entry) (next ∷ line) = and_false (ends_shut_out ends (caller_of begun.attempt) (AtNode node before entry ∷ []))
-
   release_on : (reason : Reason) (turn : Turn) (line : List Turn) → at (released_by ends begun reason turn) line ≡ release_begun ends begun (allows reason) (turn ∷ line)
   release_on reason (AtDoor place (doors.Release uuid node inc)) line =
       led-if step over stopped (same_incarnation (caller_of begun.attempt) (incarnation node inc) && bytes_eq begun.uuid uuid) (HasReleased begun reason) line
       ∙ ap (λ (b : Bool). same_incarnation (caller_of begun.attempt) (incarnation node inc) && bytes_eq begun.uuid uuid && b) (given_back reason line)
-  release_on reason turn line = shut_out turn line
+  release_on reason turn line = led-shut_out step over stopped ends begun.attempt (gives_back begun.attempt tells_down) turn line
 
   must_release : (line : List Turn) → at (Some (MustRelease begun)) line ≡ release_begun ends begun any_answer line
   must_release [] = refl
@@ -210,22 +152,6 @@ module _ (uuid : List ℕ) (node : ℕ) (nodes : List ℕ) (ends : Ends) where
     abbrev runs : List Turn → Bool
     runs line = ends_at_node begun.attempt.node (closes ends begun.attempt.inc (begins_running begun.attempt)) line
 
-    -- a closing turn, or else another position
-    abbrev closing_or : Bool → Bool → Bool → Option Progress → Option Progress
-    closing_or here passed down other = or_at (if not here then None else if passed then Some IsOver else if down then Some (Stopped begun.attempt) else None) other
-
-    last_or : (here passed down : Bool) (other : Option Progress) → begin_at (closing_or here passed down other) [] ≡ ((here && (passed || down)) || begin_at other [])
-    last_or true true down other = refl
-    last_or true false true other = refl
-    last_or true false false other = refl
-    last_or false passed down other = refl
-
-    more_or : (here passed down : Bool) (other : Option Progress) (next : Turn) (line : List Turn) → begin_at other (next ∷ line) ≡ false → begin_at (closing_or here passed down other) (next ∷ line) ≡ false
-    more_or true true down other next line none = led-none begin_step (λ turn. refl) (λ a turn. refl) line
-    more_or true false true other next line none = led-none begin_step (λ turn. refl) (λ a turn. refl) line
-    more_or true false false other next line none = none
-    more_or false passed down other next line none = none
-
     releases : (reason : Reason) (turn : Turn) (line : List Turn) → begin_at (released_by ends begun reason turn) line ≡ release_begun ends begun (allows reason) (turn ∷ line)
     releases = release_on ends false begin_step (λ turn. refl) (λ a turn. refl) begin_is begun
 
@@ -233,10 +159,10 @@ module _ (uuid : List ℕ) (node : ℕ) (nodes : List ℕ) (ends : Ends) where
     unused_on (AtDoor place act) line = releases NoRoom (AtDoor place act) line
     unused_on (AtOffice before entry) line = releases NoRoom (AtOffice before entry) line
     unused_on (AtNode at before entry) [] =
-        last_or (eqb begun.attempt.node at) (begins_running begun.attempt entry.act entry.answer) (answers_down entry.act entry.answer && ends.is_left begun.attempt.inc (node_state before)) (released_by ends begun NoRoom (AtNode at before entry))
+        led-or_last begin_step (λ turn. refl) (λ a turn. refl) ends begun.attempt (begins_running begun.attempt) (AtNode at before entry) (released_by ends begun NoRoom (AtNode at before entry))
         ∙ ap (λ (b : Bool). runs (AtNode at before entry ∷ []) || b) (releases NoRoom (AtNode at before entry) [])
     unused_on (AtNode at before entry) (next ∷ line) =
-        more_or (eqb begun.attempt.node at) (begins_running begun.attempt entry.act entry.answer) (answers_down entry.act entry.answer && ends.is_left begun.attempt.inc (node_state before)) (released_by ends begun NoRoom (AtNode at before entry)) next line
+        led-or_more begin_step (λ turn. refl) (λ a turn. refl) ends begun.attempt (begins_running begun.attempt) (AtNode at before entry) next line (released_by ends begun NoRoom (AtNode at before entry))
         (releases NoRoom (AtNode at before entry) (next ∷ line))
 
     unused_leads : (line : List Turn) → begin_at (Some (FoundUnused begun)) line ≡ (runs line || release_begun ends begun tells_no_memory line)

@@ -15,12 +15,12 @@ use Rattle.aft_model.specs.Readings.{version_name}
 use Rattle.aft_lines.specs.Advance.{advance, fetched_by, got_with, is_led_to_end, leads_to}
 use Rattle.aft_lines.specs.CourseWords.{Ends, caller_of, closes, ends_at_node}
 use Rattle.aft_lines.specs.GetCourse.{ends_get, fetch_course, get_after, get_course, loses}
-use Rattle.aft_lines.specs.Progress.{Fetching, HasFetched}
+use Rattle.aft_lines.specs.Progress.{Fetching, HasFetched, Progress}
 use Rattle.aft_lines.specs.Turns.{AtDoor, AtNode, AtOffice, Turn}
 use Rattle.law_courses.proofs.Ends.{led, led-closed, led-if, led-none, led-over}
 
 module _ (key nodes : List ℕ) (ends : Ends) where
-  abbrev step : Rattle.aft_lines.specs.Progress.Progress → Turn → Option Rattle.aft_lines.specs.Progress.Progress
+  abbrev step : Progress → Turn → Option Progress
   step = advance (Get key) nodes ends
 
   module _ (a : Attempt) (its : List ℕ) (id : TxnId) where

@@ -1,3 +1,4 @@
+pub mod Tests
 pub mod Ends
 pub mod Gets
 pub mod Begins

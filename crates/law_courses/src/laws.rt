@@ -1,8 +1,9 @@
 //! Laws of courses, as calls that do nothing and promise them.
 
-ghost use Rattle.std.specs.Prelude.{◌≡◌, ℕ, List};
+ghost use Rattle.std.specs.Prelude.{◌≡◌, ◌++◌, ℕ, List};
 ghost use Rattle.aft_id.specs.declared.txn_id.TxnId.{TxnId};
 ghost use Rattle.aft_model.specs.declared.caller.Attempt.{Attempt};
+ghost use Rattle.aft_model.specs.declared.script.Command.{Command};
 ghost use Rattle.aft_model.specs.declared.script.Command.TheVariants.{Begin, Forget, Get};
 ghost use Rattle.aft_lines.specs.Advance.{is_led_to_end, leads_to};
 ghost use Rattle.aft_lines.specs.BeginCourse.{Beginning, begin_course, claim_course, marker_course};
@@ -11,7 +12,12 @@ ghost use Rattle.aft_lines.specs.ForgetCourse.{forget_course, short_course};
 ghost use Rattle.aft_lines.specs.GetCourse.{ends_get, fetch_course, get_course};
 ghost use Rattle.aft_lines.specs.Progress.{Admitted, Fetching, FoundNoRecord, HasFetched};
 ghost use Rattle.aft_lines.specs.Turns.{Turn};
-ghost use Rattle.law_courses.specs.Led.{leads_from};
+ghost use Rattle.law_courses.specs.Led.{leads_from, leads_on};
+
+/// Behind the turns that a line has made, what follows leads to its end exactly where it does from the position that they led to.
+pub fn left_behind_turns()
+    ensures { (command : Command) (nodes : List ℕ) (ends : Ends) (made rest : List Turn) → is_led_to_end (leads_to command nodes ends (made ++ rest)) ≡ leads_on command nodes ends (leads_to command nodes ends made) rest }
+{}
 
 /// The turns of a get are its course exactly where its positions lead to an end.
 pub fn gets_lead()

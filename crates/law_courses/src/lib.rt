@@ -7,5 +7,6 @@
 mod laws;
 
 pub use laws::{
-    begins_lead, forgets_lead, gets_lead, left_of_begins, left_of_forgets, left_of_gets,
+    begins_lead, forgets_lead, gets_lead, left_behind_turns, left_of_begins, left_of_forgets,
+    left_of_gets,
 };

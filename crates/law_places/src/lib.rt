@@ -6,4 +6,4 @@
 
 mod laws;
 
-pub use laws::{fronts_never_fall, rules_at_places, seen_grows, seen_stays};
+pub use laws::{fronts_never_fall, rules_at_places, seen_grows, seen_stays, sights_grow};

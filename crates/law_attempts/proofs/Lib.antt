@@ -1,0 +1,12 @@
+pub mod Services
+pub mod Acts
+pub mod Standing
+pub mod States
+pub mod Buffers
+pub mod Fetches
+pub mod Rows
+pub mod RowsFollow
+pub mod Lives
+pub mod Attempts
+pub mod Tables
+pub mod Newest
