@@ -1,4 +1,5 @@
--- What the caller of each rule of the door must know. Once it is true, it stays true whatever is added.
+-- What the caller of each rule of the door must know. Once it is true, it stays true whatever is added, but for what an upgrade
+-- must know (`is_untouched`), which holds until a node comes up or something is deleted.
 use Rattle.std.specs.Prelude.{Bool, List, drop, false, is_some, map, not, suc, true, ℕ, ◌&&◌, ◌++◌, ◌||◌}
 use Rattle.std.specs.List.{list_all, list_any}
 use Rattle.std.specs.Str.{bytes_eq}

@@ -449,6 +449,39 @@ fn names(rt: HostRuntime) -> Result<(), Fail> {
 }
 
 #[test]
+fn copies_of_what_is_stored(rt: HostRuntime) -> Result<(), Fail> {
+    let alloc = rt.alloc();
+    let version = Version::decode(alloc, &unhex(alloc, HEAD_V, "0000000178000000026869")?)?;
+    let whole = Record::decode(alloc, &unhex(alloc, HEAD_2, X_READ)?)?;
+    let full = Marker::decode(alloc, &unhex(alloc, FULL, X)?)?;
+    let done = Marker::decode(alloc, &unhex(alloc, DONE, "")?)?;
+    assert!(rt; version.clone()? == version);
+    assert!(rt; version.key.clone()? == version.key);
+    assert!(rt; whole.clone()? == whole);
+    assert!(rt; whole.commit.clone()? == whole.commit);
+    assert!(rt; whole.commit.keys.clone()? == whole.commit.keys);
+    assert!(rt; whole.origin.clone()? == whole.origin);
+    assert!(rt; full.clone()? == full);
+    assert!(rt; done.clone()? == done);
+    Ok(())
+}
+
+#[test]
+fn copies_of_names(rt: HostRuntime) -> Result<(), Fail> {
+    let key = Key::new(rt.alloc(), b"x")?;
+    let id = an_id();
+    let names = [
+        Name::VersionOf { key, id },
+        Name::CommitOf { uuid: id.uuid },
+        Name::RetiredOf { uuid: id.uuid },
+    ];
+    for name in &names {
+        assert!(rt; name.clone()? == *name);
+    }
+    Ok(())
+}
+
+#[test]
 fn no_names(rt: HostRuntime) {
     let table = [
         "c/zz",

@@ -17,7 +17,7 @@ use std::alloc::Global;
 /// The version of a key that a transaction reads next to what it has read. `Absent` where it has read the key as
 /// absent; else the greatest version that fits; else `Absent` where no known commit wrote the key; else `NoneFits`,
 /// with the known versions of which a key was read below, ascending, and the first such key of each. Where the reads are
-/// atomic these are all known versions. `Memory` comes only where memory ran out.
+/// atomic these are all known versions.
 pub fn select<M: CommitSet>(
     alloc: Global,
     meta: &M,
