@@ -37,5 +37,6 @@ pub mod Clean
 pub mod Steps
 pub mod Progress
 pub mod Advance
+pub mod Makes
 pub mod RunsSoFar
 pub mod Holding

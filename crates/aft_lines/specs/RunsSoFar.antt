@@ -16,6 +16,7 @@ use Rattle.aft_lines.specs.LegalTrace.{are_legal_nodes, fits_settings, give_ups_
 use Rattle.aft_lines.specs.LineCourse.{answers_last, follows_course}
 use Rattle.aft_lines.specs.LineView.{LineView, ends_of}
 use Rattle.aft_lines.specs.Lines.{lines, node_numbers}
+use Rattle.aft_lines.specs.Makes.{makes}
 use Rattle.aft_lines.specs.OpeningCourse.{opening_begins}
 use Rattle.aft_lines.specs.Progress.{Progress, Stopped}
 use Rattle.aft_lines.specs.Steps.{own_steps, steps}
@@ -44,6 +45,10 @@ is_stopped_rightly seen line position = true
 abbrev pub all_stopped_rightly : Asked → Ran → Bool
 all_stopped_rightly asked ran = each_view (λ view. is_stopped_rightly view.seen view.turns (position_of view)) asked ran
 
+-- whether each line has made nothing but what lines of its command make
+abbrev pub all_make : Asked → Ran → Bool
+all_make asked ran = each_view (λ view. list_all (makes view.command) view.turns) asked ran
+
 -- whether each entry is of a line or of the opening, whose turns are the beginning of its course, or the whole
 abbrev pub opens_so : Asked → Ran → Bool
 opens_so asked ran = list_all (list_all (is_of_lines (lines asked))) (makers ran) && opening_begins (node_numbers asked.settings) (turns opening ran.trace)
@@ -56,6 +61,7 @@ pub record RunsSoFar (asked : Asked) (ran : Ran) : Type 0 where
   pub nodes : IsTrue (are_legal_nodes 1 asked.settings.cache ran.trace.door ran.trace.nodes)
   pub opening : IsTrue (opens_so asked ran)
   pub lines : IsTrue (all_lead_somewhere asked ran)
+  pub makes : IsTrue (all_make asked ran)
   pub stopped : IsTrue (all_stopped_rightly asked ran)
   pub attempts : IsTrue (speak_of_held asked ran)
   pub give_ups : IsTrue (give_ups_backed ran.trace)

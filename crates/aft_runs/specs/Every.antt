@@ -2,7 +2,7 @@
 use Rattle.std.specs.Prelude.{Bool, List, [], ◌∷◌, ◌++◌, ◌&&◌, IsTrue}
 use Rattle.std.specs.List.{list_all}
 use Rattle.aft_lines.specs.Asked.{Asked, Ran}
-use Rattle.aft_lines.specs.RunsSoFar.{all_lead_somewhere, all_stopped_rightly, opens_so}
+use Rattle.aft_lines.specs.RunsSoFar.{all_lead_somewhere, all_make, all_stopped_rightly, opens_so}
 use Rattle.aft_model.specs.declared.trace.Trace.{Trace}
 use Rattle.aft_runs.specs.Aborts.{aborted, doubt_aborted, doubt_committed}
 use Rattle.aft_runs.specs.Backups.{beside_collection, copying_beside}
@@ -57,4 +57,4 @@ EachRun test = IsTrue (list_all (λ told. test told.asked told.ran) all_runs)
 
 -- whether a run has what a run so far has besides what each legal trace has by itself
 abbrev pub comes_along : Asked → Ran → Bool
-comes_along asked ran = opens_so asked ran && all_lead_somewhere asked ran && all_stopped_rightly asked ran
+comes_along asked ran = opens_so asked ran && all_lead_somewhere asked ran && all_make asked ran && all_stopped_rightly asked ran

@@ -38,6 +38,14 @@ fetch_outlives = run (nodes 1) (
       nodes = at 1 (answering 16 (by 2 5) (turns.Value (attempt 1 1 2) x x_hi.id 15 true) (replies.Value x_hi.id hi) ∷ []);
     } ∷ [])
 
+-- a put's line gets a version, which it hasn't answered for
+abbrev pub put_fetches : Run
+put_fetches = run (nodes 1) (
+    opens
+    ∷ boots 3 opening 1 1 []
+    ∷ begins 5 (by 1 1) (attempt 1 1 1) 1
+    ∷ record (asks (by 1 2) (commands.Put x hi)) { door = finds (by 1 2) (caller_of (attempt 1 1 1)) (version_pair x_hi.id (write x hi)) ∷ [] } ∷ [])
+
 -- ---- who moves an attempt, and its fetches
 
 -- a commit is left in doubt, and another line settles it

@@ -2,11 +2,11 @@
 
 ghost use Rattle.std.specs.Prelude.{◌≡◌, false, true, IsFalse, IsTrue, None, Some};
 ghost use Rattle.aft_lines.specs.Holding.{DeskHeld, claims_held, desk_held, fetches_stay_open};
-ghost use Rattle.aft_lines.specs.RunsSoFar.{RunsSoFar, all_lead_somewhere, opens_so, steps_are_turns};
+ghost use Rattle.aft_lines.specs.RunsSoFar.{RunsSoFar, all_lead_somewhere, all_make, opens_so, steps_are_turns};
 ghost use Rattle.aft_model.specs.Attempts.{open_reads, owner};
 ghost use Rattle.aft_model.specs.Looks.{deletes_cleared};
 ghost use Rattle.aft_runs.specs.ClaimedUuids.{begins_unclaimed};
-ghost use Rattle.aft_runs.specs.Midway.{boots_second, boots_second_first, doubted_node, ends_first, fetch_outlives, settled_node};
+ghost use Rattle.aft_runs.specs.Midway.{boots_second, boots_second_first, doubted_node, ends_first, fetch_outlives, put_fetches, settled_node};
 ghost use Rattle.aft_runs.specs.OpeningTurns.{round_at};
 ghost use Rattle.aft_runs.specs.OrphanRounds.{by_older_claim, counts, crashes_and, keeps_claim};
 ghost use Rattle.aft_runs.specs.RunLines.{attempt_at, last, other, put_node, started_node};
@@ -14,7 +14,7 @@ ghost use Rattle.aft_runs.specs.Scans.{is_whole_scan, no_record, two_records};
 ghost use Rattle.aft_runs.specs.TwoVersions.{deletes_of, looks_once, unlisted};
 
 /// A run may be on its way in its opening, or in a round that holds the UUID of one of two versions. It may not be where the nodes boot otherwise,
-/// or a round deletes what it wasn't shown. What stands behind all of the door's history is no step.
+/// or a round deletes what it wasn't shown, or a put's line asks the store for something. What stands behind all of the door's history is no step.
 #[tactic(auto, unfolding(aft_histories::proofs::Stored::stored_forms))]
 pub fn on_its_way()
     ensures opening { RunsSoFar boots_second.asked boots_second.ran }
@@ -22,6 +22,8 @@ pub fn on_its_way()
     ensures round { RunsSoFar looks_once.asked looks_once.ran }
     ensures round_holds { DeskHeld looks_once.asked looks_once.ran }
     ensures unlisted { IsFalse (all_lead_somewhere (deletes_of unlisted).asked (deletes_of unlisted).ran) }
+    ensures goes_on { IsTrue (all_lead_somewhere put_fetches.asked put_fetches.ran) }
+    ensures makes_more { IsFalse (all_make put_fetches.asked put_fetches.ran) }
     ensures past_end { IsFalse (steps_are_turns (round_at 8).asked (round_at 8).ran) }
 {}
 

@@ -16,7 +16,7 @@ use Rattle.aft_model.specs.Readings.{marker_name, record_name}
 use Rattle.aft_model.specs.Stages.{HasClaimed, IsIdle, Stage, found_no_marker, found_no_record, stage_after, stage_after_call}
 use Rattle.aft_model.proofs.Sights.{same_bytes}
 use Rattle.aft_lines.specs.BackupCourse.{copier}
-use Rattle.law_makes.specs.Makes.{all_versions, collects_by_office, copies_by_copier, is_under, makes_at_door, tidies_by_office}
+use Rattle.aft_lines.specs.Makes.{all_versions, collects_by_office, copies_by_copier, is_under, makes_at_door, tidies_by_office}
 use Rattle.law_holders.specs.Rows.{is_of_attempt, is_of_node}
 use Rattle.law_holders.proofs.Own.{other_caller}
 

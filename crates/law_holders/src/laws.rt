@@ -12,7 +12,7 @@ ghost use Rattle.aft_lines.specs.Advance.{advance};
 ghost use Rattle.aft_lines.specs.CourseWords.{Ends};
 ghost use Rattle.aft_lines.specs.Progress.{Progress};
 ghost use Rattle.aft_lines.specs.Turns.{AtDoor};
-ghost use Rattle.law_makes.specs.Makes.{makes_at_door};
+ghost use Rattle.aft_lines.specs.Makes.{makes_at_door};
 ghost use Rattle.law_holders.specs.Rows.{are_row_puts, caller_at, is_of_attempt, is_of_node, is_own_act, is_row, uuid_at};
 
 /// Where the stage of the UUID of a begin, a forget, a commit or an abort is that of the line's position, each of its turns

@@ -23,7 +23,7 @@ use Rattle.aft_lines.specs.CourseWords.{Ends, answers_down, caller_of, finds_not
 use Rattle.aft_lines.specs.GetCourse.{ends_get, loses}
 use Rattle.aft_lines.specs.Progress.{Admitted, AnyReason, Fetching, FoundNoRecord, FoundShort, FoundUnused, HasClaim, HasFetched, HasForgotten, HasReleased, IsOver, MustRelease, NoRoom, Progress, Reason, Refusal, Stopped}
 use Rattle.aft_lines.specs.Turns.{AtDoor, AtNode, AtOffice, Turn}
-use Rattle.law_makes.specs.Makes.{all_versions, begins_at_node, forgets_at_node, gets_at_node, is_of_uuid, makes}
+use Rattle.aft_lines.specs.Makes.{all_versions, begins_at_node, forgets_at_node, gets_at_node, is_of_uuid, makes}
 use Rattle.law_makes.proofs.Reached.{comes_to}
 use Rattle.law_makes.proofs.Well.{is_well, under_same, well_closed, well_if, well_or, well_shut}
 

@@ -38,7 +38,7 @@ use Rattle.aft_lines.specs.LineCourse.{announce_after, announce_course, crash_co
 use Rattle.aft_lines.specs.ScanCourse.{ScanLimit, names_limit, scanned_from, stopped_at, stops_at}
 use Rattle.aft_lines.specs.Turns.{AtDoor, AtNode, AtOffice, Turn, end_front}
 use Rattle.law_rounds.proofs.Scans.{is_own, page_left}
-use Rattle.law_makes.specs.Makes.{all_versions, collects_at_node, collects_at_office, crashes_at_node, delivers_at_node, drops_at_node, is_under, makes, manages_at_office, puts_at_node}
+use Rattle.aft_lines.specs.Makes.{all_versions, collects_at_node, collects_at_office, crashes_at_node, delivers_at_node, drops_at_node, is_under, makes, manages_at_office, puts_at_node}
 use Rattle.law_makes.proofs.Well.{reads_under}
 
 first_part : (a b c d : Bool) → IsTrue (a && b && c && d) → IsTrue a

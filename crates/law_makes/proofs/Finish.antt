@@ -29,7 +29,7 @@ use Rattle.aft_lines.specs.CourseWords.{Ends, answers_down, any_answer, caller_o
 use Rattle.aft_lines.specs.Progress.{EndsAborted, EndsCommitted, EndsLeft, FoundAborted, HasFailed, IsNodeStored, IsOver, IsRecorded, IsStoring, MustDoubt, MustEnd, MustLeave, Outcome, Progress, Settling, Stopped}
 use Rattle.aft_lines.specs.Turns.{AtDoor, AtNode, AtOffice, Turn}
 use Rattle.law_finish.specs.Finishing.{finishing}
-use Rattle.law_makes.specs.Makes.{aborts_at_node, all_versions, commits_at_node, is_under, makes}
+use Rattle.aft_lines.specs.Makes.{aborts_at_node, all_versions, commits_at_node, is_under, makes}
 use Rattle.law_makes.proofs.Reached.{comes_to}
 use Rattle.law_makes.proofs.Well.{is_well, reads_under, under_same, well_closed, well_if, well_or, well_shut}
 

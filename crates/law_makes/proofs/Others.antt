@@ -33,7 +33,7 @@ use Rattle.aft_lines.specs.Progress.{AtDesk, BootScan, BootScanned, CopyMarkers,
 use Rattle.aft_lines.specs.ScanCourse.{copy_limit, names_limit, stops_at, versions_limit}
 use Rattle.aft_lines.specs.Turns.{AtDoor, AtNode, AtOffice, Turn}
 use Rattle.law_rounds.specs.Left.{scan_at}
-use Rattle.law_makes.specs.Makes.{all_versions, answers_at_office, is_of_uuid, makes, starts_at_node}
+use Rattle.aft_lines.specs.Makes.{all_versions, answers_at_office, is_of_uuid, makes, starts_at_node}
 use Rattle.law_makes.proofs.Reached.{comes_to}
 use Rattle.law_makes.proofs.Well.{is_well, under_same, well_if}
 

@@ -1,4 +1,4 @@
--- The lines of a legal trace, and of a run so far.
+-- The lines of a legal trace.
 use Rattle.std.proofs.Common.{◌≡◌, Bool, true, false, ◌&&◌, ◌||◌, not, List, [], ◌∷◌, refl, ap}
 use Rattle.std.specs.Prelude.{IsTrue, Option, Some, None, is_some}
 use Rattle.std.specs.List.{list_all}
@@ -9,13 +9,10 @@ use Rattle.aft_lines.specs.LegalTrace.{LegalTrace}
 use Rattle.aft_lines.specs.LineCourse.{answers_last, follows_course}
 use Rattle.aft_lines.specs.LineView.{LineView, ends_of}
 use Rattle.aft_lines.specs.Lines.{lines, node_numbers}
-use Rattle.aft_lines.specs.Progress.{Progress}
-use Rattle.aft_lines.specs.RunsSoFar.{RunsSoFar, position_of}
+use Rattle.aft_lines.specs.RunsSoFar.{all_make}
 use Rattle.aft_lines.specs.Views.{each_view, view_of}
-use Rattle.law_rounds.specs.Along.{is_along}
-use Rattle.law_makes.specs.Makes.{makes}
-use Rattle.law_makes.specs.Runs.{all_make, told_apart_make}
-use Rattle.law_makes.proofs.Whole.{courses_make, lines_make}
+use Rattle.aft_lines.specs.Makes.{makes}
+use Rattle.law_makes.proofs.Whole.{courses_make}
 
 -- a test of each view that passes where another does
 each_too : (one other : LineView → Bool) → ((view : LineView) → IsTrue (one view) → IsTrue (other view)) → (asked : Asked) (ran : Ran) → IsTrue (each_view one asked ran) → IsTrue (each_view other asked ran)
@@ -29,19 +26,3 @@ pub legal_make : (asked : Asked) (ran : Ran) → LegalTrace asked ran → IsTrue
 legal_make asked ran legal =
     each_too (λ view. answers_last view.turns && follows_course view.command (node_numbers view.settings) (ends_of view) view.turns) (λ view. list_all (makes view.command) view.turns)
     (λ view is. courses_make view.command (node_numbers view.settings) (ends_of view) view.turns refl (and_parts (answers_last view.turns) (follows_course view.command (node_numbers view.settings) (ends_of view) view.turns) is).1) asked ran legal.courses
-
-come_somewhere : (position : Option Progress) → IsTrue (is_some position) → (found : Progress) × (position ≡ Some found)
-come_somewhere None is = absurd (cc)
-come_somewhere (Some found) is = (found, refl)
-
-pub so_far_make : (asked : Asked) (ran : Ran) → RunsSoFar asked ran → IsTrue (told_apart_make asked ran)
-so_far_make asked ran runs = each_too (λ view. is_some (position_of view)) (λ view. is_along view.command || list_all (makes view.command) view.turns) each asked ran runs.lines
-  where
-    each : (view : LineView) → IsTrue (is_some (position_of view)) → IsTrue (is_along view.command || list_all (makes view.command) view.turns)
-    each view is = by_kind (is_along view.command) refl
-      where
-        by_kind : (kind : Bool) → is_along view.command ≡ kind → IsTrue (is_along view.command || list_all (makes view.command) view.turns)
-        by_kind true along = ap (λ (b : Bool). b || list_all (makes view.command) view.turns) along
-        by_kind false along =
-            let found = come_somewhere (position_of view) is in
-            or_right (is_along view.command) _ (lines_make view.command (node_numbers view.settings) (ends_of view) view.turns found.0 (ap (λ (b : Bool). not b) along) found.1)

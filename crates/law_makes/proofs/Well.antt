@@ -15,7 +15,7 @@ use Rattle.aft_lines.specs.Advance.{closed_by, or_at, shut_out_by}
 use Rattle.aft_lines.specs.CourseWords.{Ends, answers_down, caller_of, ends_shut_out}
 use Rattle.aft_lines.specs.Progress.{IsOver, Progress, Stopped}
 use Rattle.aft_lines.specs.Turns.{AtDoor, AtNode, AtOffice, Turn}
-use Rattle.law_makes.specs.Makes.{is_under}
+use Rattle.aft_lines.specs.Makes.{is_under}
 
 -- names that are the same begin with the same prefixes
 pub under_same : (prefix name other : List ℕ) → IsTrue (bytes_eq name other) → IsTrue (is_under prefix name) → IsTrue (is_under prefix other)

@@ -24,7 +24,7 @@ use Rattle.law_rounds.proofs.Copies.{backup_led}
 use Rattle.law_rounds.proofs.Orphans.{orphans_led}
 use Rattle.law_rounds.proofs.Starts.{start_led}
 use Rattle.law_rounds.specs.Along.{is_along}
-use Rattle.law_makes.specs.Makes.{makes}
+use Rattle.aft_lines.specs.Makes.{makes}
 use Rattle.law_makes.proofs.Reached.{comes_to}
 use Rattle.law_makes.proofs.Well.{is_well}
 use Rattle.law_makes.proofs.Claims.{begin_first, begin_step, forget_first, forget_step, get_first, get_step}

@@ -10,11 +10,10 @@ ghost use Rattle.aft_lines.specs.CourseWords.{Ends};
 ghost use Rattle.aft_lines.specs.LegalTrace.{LegalTrace};
 ghost use Rattle.aft_lines.specs.LineCourse.{follows_course};
 ghost use Rattle.aft_lines.specs.Progress.{Progress};
-ghost use Rattle.aft_lines.specs.RunsSoFar.{RunsSoFar};
+ghost use Rattle.aft_lines.specs.RunsSoFar.{all_make};
 ghost use Rattle.aft_lines.specs.Turns.{Turn};
 ghost use Rattle.law_rounds.specs.Along.{is_along};
-ghost use Rattle.law_makes.specs.Makes.{makes};
-ghost use Rattle.law_makes.specs.Runs.{all_make, told_apart_make};
+ghost use Rattle.aft_lines.specs.Makes.{makes};
 
 /// A line that has come somewhere in its course, where its positions are told apart, has made nothing but what lines of its command make.
 pub fn lines_make()
@@ -26,9 +25,7 @@ pub fn courses_make()
     ensures { (command : Command) (nodes : List ℕ) (ends : Ends) (line : List Turn) → ends.is_shut_out the_office 0 ≡ false → IsTrue (follows_course command nodes ends line) → IsTrue (list_all (makes command) line) }
 {}
 
-/// In a legal trace each line makes nothing but what lines of its command make, and in a run so far each line does whose
-/// positions are told apart.
+/// In a legal trace each line makes nothing but what lines of its command make.
 pub fn runs_make()
     ensures legal { (asked : Asked) (ran : Ran) → LegalTrace asked ran → IsTrue (all_make asked ran) }
-    ensures so_far { (asked : Asked) (ran : Ran) → RunsSoFar asked ran → IsTrue (told_apart_make asked ran) }
 {}
