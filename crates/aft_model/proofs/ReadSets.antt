@@ -37,7 +37,7 @@ read_at-push key (pair ∷ pairs) last new =
     cases false there first second apart = refl
 
 -- a new key at the end leaves each key once
-HasEachKeyOnce-push : (pairs : List ReadPair) (last : ReadPair) → HasEachKeyOnce pairs → read_at last.key pairs ≡ None → HasEachKeyOnce (pairs ++ last ∷ [])
+pub HasEachKeyOnce-push : (pairs : List ReadPair) (last : ReadPair) → HasEachKeyOnce pairs → read_at last.key pairs ≡ None → HasEachKeyOnce (pairs ++ last ∷ [])
 HasEachKeyOnce-push [] last once e = (refl, tt)
 HasEachKeyOnce-push (pair ∷ pairs) last once e =
     let split = none_of (bytes_eq last.key pair.key) pair.id (read_at last.key pairs) e in

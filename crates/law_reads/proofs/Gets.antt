@@ -127,7 +127,7 @@ module _ (key : List ℕ) (reads : List ReadPair) (known : List Commit) where
           | inl zero ↦ zero
           | inr wrote_it ↦ elim (chosen_absent is) [
             | inl read ↦ (let one = read_once zero_id other (pair_read key zero_id reads read) at in sym one)
-            | inr none ↦ absurd (subst (λ ids. In other ids) none (version_there reads known atomic key other wrote_it))
+            | inr none ↦ absurd (subst (λ ids. In other ids) none (version_there key other known wrote_it))
           ]
         ]
       where
