@@ -54,6 +54,13 @@ impl DataCache {
         self.values.get(at)
     }
 
+    /// The value that is kept under a key and id, lent. The order stays. Takes no memory.
+    pub fn peek(&self, at: &Spot) -> Option<&Bytes>
+        ensures { option_copied result ≡ kept_value at.now.key at.now.id self.now.kept }
+    {
+        self.values.peek(at)
+    }
+
     /// Puts a value in front, in place of the one of its key and id. Where there was none and the cache was full,
     /// the last one goes. `Memory` leaves the cache as it was.
     pub fn keep(&mut self, key: Key, id: TxnId, value: Bytes) -> Result<(), Memory>

@@ -54,3 +54,28 @@ fn keeps_as_many_as_fit(rt: HostRuntime) -> Result<(), Fail> {
     cache.clear();
     Ok(())
 }
+
+/// A value that is peeked at stays where it is: the last used one, and not it, outlives the next.
+#[test]
+fn peeks_and_leaves_the_order(rt: HostRuntime) -> Result<(), Fail> {
+    let alloc = rt.alloc();
+    let id = TxnId::zero();
+    let x = Spot {
+        key: Key::new(alloc, b"x")?,
+        id,
+    };
+    let mut cache = DataCache::new(alloc, 2)?;
+    for name in [b"x", b"y"] {
+        let value = Bytes::from_vec(name.to_vec(alloc)?);
+        cache.keep(Key::new(alloc, name)?, id, value)?;
+    }
+    assert!(rt;
+        cache
+            .peek(&x)
+            .is_some_and(|value| value.as_slice() == b"x".as_slice())
+    );
+    let value = Bytes::from_vec(b"z".to_vec(alloc)?);
+    cache.keep(Key::new(alloc, b"z")?, id, value)?;
+    assert!(rt; cache.peek(&x).is_none());
+    Ok(())
+}
