@@ -27,5 +27,5 @@ pub fn courses_make()
 
 /// In a legal trace each line makes nothing but what lines of its command make.
 pub fn runs_make()
-    ensures legal { (asked : Asked) (ran : Ran) → LegalTrace asked ran → IsTrue (all_make asked ran) }
+    ensures { (asked : Asked) (ran : Ran) → LegalTrace asked ran → IsTrue (all_make asked ran) }
 {}
