@@ -5,6 +5,7 @@ use Rattle.aft_keeper.specs.declared.keeper.KeeperCall.TheVariants as calls
 use Rattle.aft_model.specs.declared.caller.Attempt.{Attempt}
 use Rattle.aft_model.specs.declared.caller.By.{By}
 use Rattle.aft_model.specs.declared.door.DoorAct.TheVariants as acts
+use Rattle.aft_model.specs.declared.choice.Picked.TheVariants as picks
 use Rattle.aft_model.specs.declared.door.DoorEntry.{DoorEntry}
 use Rattle.aft_model.specs.declared.node.NodeAct.{NodeAct}
 use Rattle.aft_model.specs.declared.node.NodeAct.TheVariants as turns
@@ -14,7 +15,7 @@ use Rattle.aft_model.specs.declared.reply.Reply.TheVariants as replies
 use Rattle.aft_model.specs.declared.script.Command.TheVariants as commands
 use Rattle.aft_histories.specs.Entries.{u, x, record_of}
 use Rattle.aft_runs.specs.Entries.{does, calls_for, fails, stores, turn, answering}
-use Rattle.aft_runs.specs.Lines.{opening, opens, boots, attempt, begins, caller_of, own_record, puts}
+use Rattle.aft_runs.specs.Lines.{opening, opens, boots, attempt, begins, caller_of, commits, crashes, own_record, puts}
 use Rattle.aft_runs.specs.Reads.{x_hi}
 use Rattle.aft_runs.specs.Words.{write, hi, commit_of, version_pairs}
 use Rattle.aft_runs.specs.Works.{Work, Run, run, ordered, step, by, at, nodes, asks, nothing}
@@ -85,6 +86,51 @@ stopped = goes_down 11 (by 2 4)
 -- it only answers that the node is down
 abbrev pub only_answers : Work
 only_answers = at_node (answering 11 (by 1 3) turns.Nothing is_down ∷ [])
+
+-- ---- a get
+
+-- a transaction that has picked the version of x
+abbrev pub reader : Attempt
+reader = attempt 1 1 2
+
+-- it is to be fetched, its node is fenced, and this is done
+abbrev pub get_fenced_then : List Work → Run
+get_fenced_then works = ordered (step 1 ∷ []) (run (nodes 1) (
+    opens
+    ∷ boots 3 opening 1 1 []
+    ∷ begins 5 (by 1 1) own 1
+    ∷ puts 8 (by 1 2) own (write x hi)
+    ∷ commits 8 (by 1 3) own x_hi
+    ∷ begins 11 (by 1 4) reader 2
+    ∷ record (asks (by 1 5) (commands.Get x)) { nodes = at 1 (turn 14 (by 1 5) (turns.Select reader x (picks.Fetch x_hi.id)) ∷ []) }
+    ∷ fences (by 2 6)
+    ∷ works))
+
+-- its last turn does this, and answers that the node is down; and the node goes down
+abbrev pub get_ends : NodeAct → Work
+get_ends act = at_node (answering 15 (by 1 5) act is_down ∷ [])
+
+abbrev pub get_stops : Work
+get_stops = goes_down 15 (by 2 6)
+
+-- ---- a start
+
+-- a node has crashed, boots again and has come up, is fenced, and this is done
+abbrev pub start_fenced_then : List Work → Run
+start_fenced_then works = ordered (step 1 ∷ []) (run (nodes 1) (
+    opens
+    ∷ boots 3 opening 1 1 []
+    ∷ crashes 5 (by 1 1) 1 1
+    ∷ record (asks (by 1 2) (commands.Start 1)) { door = does (by 1 2) (acts.Up 1 2) ∷ []; nodes = at 1 (turn 6 (by 1 2) (turns.Booting 2) ∷ []) }
+    ∷ record (asks (by 2 3) (commands.Crash 1)) { door = does (by 2 3) (acts.Fence 1 2) ∷ [] }
+    ∷ works))
+
+-- its last turn does this, and answers that the node is down; and the node goes down
+abbrev pub start_ends : NodeAct → Work
+start_ends act = at_node (answering 8 (by 1 2) act (replies.NodeDown 1 2) ∷ [])
+
+abbrev pub start_stops : Work
+start_stops = at_node (answering 8 (by 2 3) (turns.Down 2) (replies.Crashed 1 2) ∷ [])
 
 -- ---- a commit that meets a fault
 

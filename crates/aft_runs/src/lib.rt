@@ -88,6 +88,8 @@ pub use crashes::crash_between_puts;
 pub use crashes::crash_in_get;
 pub use crashes::puts_behind_crash_refused;
 pub use cut_off::cut_off_refused;
+pub use cut_off::gets_cut_off;
+pub use cut_off::starts_cut_off;
 pub use cut_off::store_faults_refused;
 pub use deliveries::boxes_refused;
 pub use deliveries::rounds_refused;
