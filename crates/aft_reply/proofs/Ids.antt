@@ -1,5 +1,5 @@
 -- The UUID and the id that a word is read as.
-use Rattle.std.proofs.Common.{Bool, Err, List, None, Ok, Option, Result, Some, [], ap, arith, cond, drop, false, inl, length, nat_lt, refl, sym, take, true, ℕ, ◌&&◌, ◌++◌, ◌+◌, ◌<◌, ◌==◌, ◌^◌, ◌≡◌, ◌∙◌, ◌∷◌}
+use Rattle.std.proofs.Common.{Bool, Err, List, None, Ok, Option, Result, Some, [], ap, arith, cond, drop, false, inl, inr, length, nat_lt, refl, sym, take, true, ℕ, ◌&&◌, ◌++◌, ◌+◌, ◌<◌, ◌==◌, ◌^◌, ◌≡◌, ◌∙◌, ◌∷◌}
 use Rattle.std.proofs.Math.Seq.{drop-append-add, take-append_seam}
 use Rattle.std.specs.Char.{is_ascii_digit}
 use Rattle.std.specs.Cmp.Lexicographic.{nat_list_eq_equiv}
@@ -9,7 +9,7 @@ use Rattle.std.specs.Prelude.{IfOk, IsOk, ◌↔◌}
 use Rattle.std.specs.Result.{MatchResult, result_ok}
 use Rattle.std.specs.Str.{all_ascii_digits, bytes_eq}
 use Rattle.std.specs.Str.Parse.{digits_value}
-use Rattle.std.proofs.lemmas.Bool.{and_from, and_parts}
+use Rattle.std.proofs.lemmas.Bool.{and_from, and_parts, true≢false}
 use Rattle.std.proofs.lemmas.Bool.Decides.{nat_tests}
 use Rattle.std.proofs.lemmas.Fmt.{decimal_nonempty, digits_decimal, digits_value-decimal}
 use Rattle.std.proofs.lemmas.List.Sums.{AllPass-from_list_all, list_all-from_AllPass}
@@ -46,7 +46,7 @@ uuid_behind : (digits rest : List ℕ) → all_ascii_digits digits ≡ true → 
 uuid_behind digits rest all = ap (λ n. drop (n + 1) (digits ++ 45 ∷ rest)) (first_hyphen digits rest all) ∙ drop-append-add digits (45 ∷ rest) 1
 
 -- an id's text seems to be that id
-seeming_id-text : (id : TxnId) → IsReplyId id → seeming_id (id_text id) ≡ id
+seeming_id-text : (id : TxnId) → IsUuid id.uuid × (id.time < 2 ^ 48) → seeming_id (id_text id) ≡ id
 seeming_id-text id is =
     let small : id.time < 2 ^ 64 = omega (arith, is.1) in
     let digits : all_ascii_digits (decimal id.time) ≡ true = digits_decimal decimal_digits id.time small in
@@ -67,7 +67,7 @@ some_if : {A : Type 0} (b : Bool) (x : A) → b ≡ true → (cond b (Some x) No
 some_if b x test = rw test refl
 
 -- an id's text is read as that id
-pub id_written-text : (id : TxnId) → IsReplyId id → id_written (id_text id) ≡ Some id
+pub id_written-text : (id : TxnId) → IsUuid id.uuid × (id.time < 2 ^ 48) → id_written (id_text id) ≡ Some id
 id_written-text id is =
     let small : nat_lt id.time (2 ^ 48) ≡ true = grind (arith, nat_tests, is.1) in
     ap (if_spelled (id_text id)) (seeming_id-text id is)
@@ -107,9 +107,16 @@ longer id small = two_bytes (decimal id.time) (decimal_nonempty id.time (omega a
         either true = refl
         either false = refl
 
+-- an id other than the zero id has a time of 1 or more
+timed : (id : TxnId) → IsReplyId id → same_id id zero_id ≡ false → nat_lt 0 id.time ≡ true
+timed id is test = elim is.2 [
+  | inl zero ↦ absurd (true≢false (sym (ap (λ (i : TxnId). same_id i zero_id) zero) ∙ test))
+  | inr some ↦ grind (arith, nat_tests, some)
+]
+
 id_either_way : (id : TxnId) (zero : Bool) → IsReplyId id → same_id id zero_id ≡ zero → id_of (id_word id) ≡ Ok id
 id_either_way id true is test = rw test (ap Ok (sym (same_ids id zero_id test)))
-id_either_way id false is test = rw (test, longer id is.1, id_written-text id is) refl
+id_either_way id false is test = rw (test, longer id is.1, id_written-text id (is.0, is.1), timed id is test) refl
 
 -- an id
 pub id_of-word : (id : TxnId) → IsReplyId id → id_of (id_word id) ≡ Ok id

@@ -1,9 +1,9 @@
--- The limits of replies: numbers have the width of their type, keys, UUIDs and values are bytes, the time of an id is
--- below 2^48, and a damaged name has one byte or more, each 33 to 126.
-use Rattle.std.specs.Prelude.{All, IsTrue, List, length, ℕ, ◌<◌, ◌^◌}
+-- The limits of replies: numbers have the width of their type, keys, UUIDs and values are bytes, an id is the zero id or
+-- has a time of 1 to 2^48 - 1, and a damaged name has one byte or more, each 33 to 126.
+use Rattle.std.specs.Prelude.{All, IsTrue, List, length, ℕ, ◌<◌, ◌^◌, ◌≡◌, ◌≤◌, ◌⊎◌}
 use Rattle.std.specs.List.{list_all}
 use Rattle.aft_id.specs.declared.txn_id.TxnId.{TxnId}
-use Rattle.aft_id.specs.TxnId.{IsUuid}
+use Rattle.aft_id.specs.TxnId.{IsUuid, zero_id}
 use Rattle.aft_records.specs.Limits.{IsKey, is_key_byte}
 use Rattle.aft_model.specs.declared.choice.Blocked.{Blocked}
 use Rattle.aft_model.specs.declared.reply.Judged.{Judged}
@@ -12,9 +12,9 @@ use Rattle.aft_model.specs.declared.reply.Reply.TheVariants.{Announced, Begun, B
 use Rattle.aft_model.specs.declared.reply.Verdict.{Verdict}
 use Rattle.aft_model.specs.declared.reply.Verdict.TheVariants.{Held}
 
--- an id of a reply
+-- an id of a reply: the zero id, or one with a time of 1 to 2^48 - 1
 abbrev pub IsReplyId : TxnId → Type 0
-IsReplyId id = IsUuid id.uuid × (id.time < 2 ^ 48)
+IsReplyId id = IsUuid id.uuid × (id.time < 2 ^ 48) × ((id ≡ zero_id) ⊎ (1 ≤ id.time))
 
 -- a value
 abbrev pub IsValue : List ℕ → Type 0

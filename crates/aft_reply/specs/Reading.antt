@@ -122,9 +122,14 @@ if_spelled word id = if bytes_eq (id_text id) word && nat_lt id.time (2 ^ 48) &&
 abbrev pub id_written : List ℕ → Option TxnId
 id_written word = if_spelled word (seeming_id word)
 
--- an id: `0` for the zero id
+-- an id that was written, if its time isn't 0
+abbrev pub if_timed : Option TxnId → Result TxnId ReplyFault
+if_timed (Some id) = if nat_lt 0 id.time then Ok id else Err BadReply
+if_timed None = Err BadReply
+
+-- an id: `0` for the zero id alone, and else the text of an id with a time of 1 or more
 abbrev pub id_of : List ℕ → Result TxnId ReplyFault
-id_of word = if bytes_eq word (codes "0") then Ok zero_id else ok_or (id_written word) BadReply
+id_of word = if bytes_eq word (codes "0") then Ok zero_id else if_timed (id_written word)
 
 -- a number below 2^64
 abbrev pub count_of : List ℕ → Result ℕ ReplyFault

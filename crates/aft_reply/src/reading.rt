@@ -20,8 +20,8 @@ use std::alloc::Global;
 
 /// Reads the text of a reply, as `write_reply` writes it: `BadReply` comes exactly where the text is no reply's.
 ///
-/// Numbers have the width of their type, the time of an id is below 2^48, and a damaged name has one byte or more, each
-/// 33 to 126.
+/// Numbers have the width of their type, an id is `0` or has a time of 1 to 2^48 - 1, and a damaged name has one byte or
+/// more, each 33 to 126.
 pub fn read_reply(alloc: Global, text: &str) -> Result<Reply, ReplyFault>
     ensures reads { IfOk result (λ reply. IsReply reply × (reply_text reply ≡ text.now)) }
     ensures bad { result ≡ Err ReplyFault.BadReply → (reply : Reply) → IsReply reply → reply_text reply ≡ text.now → ⊥ }

@@ -32,7 +32,7 @@ pub(crate) fn uuid_of(word: &str) -> Result<Uuid, ReplyFault>
     }
 }
 
-/// An id: `0` for the zero id.
+/// An id: `0` for the zero id alone, and else the text of an id with a time of 1 or more.
 pub(crate) fn id_of(word: &str) -> Result<TxnId, ReplyFault>
     ensures value { result ≡ id_of word.now }
     ensures fits { IfOk result IsReplyId }
@@ -40,13 +40,17 @@ pub(crate) fn id_of(word: &str) -> Result<TxnId, ReplyFault>
     if word == "0" {
         return Ok(TxnId::zero());
     }
-    id_written(word).ok_or(ReplyFault::BadReply)
+    match id_written(word) {
+        Some(id) if id.time > 0 => Ok(id),
+        _ => Err(ReplyFault::BadReply),
+    }
 }
 
 /// The id whose text a word is.
 fn id_written(word: &str) -> Option<TxnId>
     ensures value { result ≡ id_written word.now }
-    ensures fits { IfSome result IsReplyId }
+    ensures uuid { IfSome result (λ id. IsUuid id.uuid) }
+    ensures early { IfSome result (λ id. id.time < 2 ^ 48) }
 {
     TxnId::read(word).ok()
 }
