@@ -78,12 +78,12 @@ module _ (by : By) where
 
 -- ---- which steps stand at which list
 
-at_node : (node : ℕ) (before history : List NodeEntry) (one : Made) → In one (made_at_node node before history) → is_at_node node one.turn ≡ true
+pub at_node : (node : ℕ) (before history : List NodeEntry) (one : Made) → In one (made_at_node node before history) → is_at_node node one.turn ≡ true
 at_node node before [] one among = absurd among
 at_node node before (entry ∷ entries) one (inl is) = ap (λ (m : Made). is_at_node node m.turn) is ∙ eq-eqb node node refl
 at_node node before (entry ∷ entries) one (inr later) = at_node node (before ++ entry ∷ []) entries one later
 
-not_at_other : (node other : ℕ) (turn : Turn) → ((node ≡ other) → ⊥) → is_at_node node turn ≡ true → is_at_node other turn ≡ false
+pub not_at_other : (node other : ℕ) (turn : Turn) → ((node ≡ other) → ⊥) → is_at_node node turn ≡ true → is_at_node other turn ≡ false
 not_at_other node other (AtDoor place act) differ is = refl
 not_at_other node other (AtNode number before entry) differ is = ne_eqb number other (λ same. differ (sym (eqb-true number node is) ∙ same))
 not_at_other node other (AtOffice before entry) differ is = refl
@@ -93,12 +93,12 @@ node_is_no_office node (AtDoor place act) is = refl
 node_is_no_office node (AtNode number before entry) is = refl
 node_is_no_office node (AtOffice before entry) is = absurd (false≢true is)
 
-at_office : (before office : List OfficeEntry) (one : Made) → In one (made_at_office before office) → is_at_office one.turn ≡ true
+pub at_office : (before office : List OfficeEntry) (one : Made) → In one (made_at_office before office) → is_at_office one.turn ≡ true
 at_office before [] one among = absurd among
 at_office before (entry ∷ entries) one (inl is) = ap (λ (m : Made). is_at_office m.turn) is
 at_office before (entry ∷ entries) one (inr later) = at_office (before ++ entry ∷ []) entries one later
 
-office_is_no_node : (node : ℕ) (turn : Turn) → is_at_office turn ≡ true → is_at_node node turn ≡ false
+pub office_is_no_node : (node : ℕ) (turn : Turn) → is_at_office turn ≡ true → is_at_node node turn ≡ false
 office_is_no_node node (AtDoor place act) is = refl
 office_is_no_node node (AtNode number before entry) is = absurd (false≢true is)
 office_is_no_node node (AtOffice before entry) is = refl
@@ -120,7 +120,7 @@ no_office node (history ∷ histories) =
     (filter_none (λ (one : Made). is_at_office one.turn) (made_at_node node [] history) (λ one among. node_is_no_office node one.turn (at_node node [] history one among)))
     ∙ no_office (suc node) histories
 
-node_fronts_of : (node : ℕ) (before history : List NodeEntry) → fronts_of (made_at_node node before history) ≡ node_fronts history
+pub node_fronts_of : (node : ℕ) (before history : List NodeEntry) → fronts_of (made_at_node node before history) ≡ node_fronts history
 node_fronts_of node before [] = refl
 node_fronts_of node before (entry ∷ entries) = ap (λ (l : List ℕ). entry.front ∷ l) (node_fronts_of node (before ++ entry ∷ []) entries)
 
@@ -132,7 +132,7 @@ all_from_zero : (numbers : List ℕ) → IsTrue (list_all (λ n. leb 0 n) number
 all_from_zero [] = refl
 all_from_zero (n ∷ numbers) = and_from _ _ (le-leb 0 n (omega arith)) (all_from_zero numbers)
 
-rises : (last : ℕ) (made : List Made) (numbers : List ℕ) → fronts_of made ≡ numbers → IsTrue (rise_to last numbers) → Rise 0 (0 + last) made
+pub rises : (last : ℕ) (made : List Made) (numbers : List ℕ) → fronts_of made ≡ numbers → IsTrue (rise_to last numbers) → Rise 0 (0 + last) made
 rises last made numbers is rise =
     let parts = and_parts (never_fall numbers) (list_all (λ n. leb n last) numbers) rise in
     let same : last ≡ 0 + last = omega arith in

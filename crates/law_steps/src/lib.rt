@@ -6,4 +6,4 @@
 
 mod laws;
 
-pub use laws::{fronts_are_exact, steps_are_turns};
+pub use laws::{fronts_are_exact, histories_are_steps, steps_are_turns};
