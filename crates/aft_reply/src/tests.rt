@@ -16,11 +16,15 @@ fn id(time: u64, number: u128) -> TxnId {
     }
 }
 
-// The reply is written as this text, and read from it.
+// The reply is written as this text, and what is read from it is written so again.
 fn check(rt: &impl Abort, alloc: Global, reply: &Reply, text: &str) -> Result<(), Fail> {
     let written = write_reply(alloc, reply)?;
     assert_eq!(rt; written.as_str(), text);
-    assert!(rt; read_reply(alloc, text).is_ok(), "{text}");
+    let Ok(read) = read_reply(alloc, text) else {
+        return Err(Fail::from("a reply is not read"));
+    };
+    let again = write_reply(alloc, &read)?;
+    assert_eq!(rt; again.as_str(), text);
     Ok(())
 }
 
@@ -263,6 +267,7 @@ fn texts_of_no_reply(rt: HostRuntime) -> Result<(), Fail> {
         "begun 00000000-0000-0000-0000-000000000001 1",
         "committed 00",
         "committed 0-00000000-0000-0000-0000-000000000000",
+        "committed 0-00000000-0000-0000-0000-000000000001",
         "committed 1000-00000000000000000000000000000001",
         "committed 01-00000000-0000-0000-0000-000000000001",
         "committed 281474976710656-00000000-0000-0000-0000-000000000001",
@@ -282,6 +287,7 @@ fn texts_of_no_reply(rt: HostRuntime) -> Result<(), Fail> {
         "damaged ",
         "damaged \t",
         "no-valid-version 0 x",
+        "no-valid-version 0 x 0-00000000-0000-0000-0000-000000000001",
         "collected 0",
         "collected 0 held 9",
         "collected 0 lost",
