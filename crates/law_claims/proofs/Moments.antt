@@ -31,7 +31,7 @@ use Rattle.law_claims.proofs.Scenes.{by_itself, same_by}
 
 -- ---- one step more
 
-door-snoc : (made : List Made) (one : Made) → door_steps (made ++ one ∷ []) ≡ door_steps made ++ door_entry_in one.by one.turn
+pub door-snoc : (made : List Made) (one : Made) → door_steps (made ++ one ∷ []) ≡ door_steps made ++ door_entry_in one.by one.turn
 door-snoc made one = flat_map-append (λ (m : Made). door_entry_in m.by m.turn) made (one ∷ []) ∙ ap (λ (l : List DoorEntry). door_steps made ++ l) (append-nil (door_entry_in one.by one.turn))
 
 node-snoc : (node : ℕ) (made : List Made) (one : Made) → node_steps node (made ++ one ∷ []) ≡ node_steps node made ++ node_entry_in node one.turn
@@ -84,7 +84,7 @@ module _ (asking : Asking) (capacity : ℕ) (made : List Made) (one : Made) wher
       turned : (o : By) → same_line one.by o ≡ false → same_line o one.by ≡ false
       turned o d = false_from_ne_true (same_line o one.by) (λ is. true≢false (sym (by_itself one.by) ∙ subst (λ (x : By). same_line one.by x ≡ false) (same_by o one.by is) d))
 
-  goes_along : (command : Command) (next : Progress) → asking.command one.by ≡ Some command → IsTrue (is_of_attempt command) → leads_to command asking.nodes (asking.ends one.by) (own_steps one.by made ++ one.turn ∷ []) ≡ Some next
+  pub goes_along : (command : Command) (next : Progress) → asking.command one.by ≡ Some command → IsTrue (is_of_attempt command) → leads_to command asking.nodes (asking.ends one.by) (own_steps one.by made ++ one.turn ∷ []) ≡ Some next
       → advance command asking.nodes (asking.ends one.by) (before.at one.by) one.turn ≡ Some (after.at one.by)
   goes_along command next is of leads =
       ap (λ (p : Progress). advance command asking.nodes (asking.ends one.by) p one.turn) (at_mover asking one.by (own_steps one.by made) command is of)
@@ -114,7 +114,7 @@ module _ (asking : Asking) (capacity : ℕ) (made : List Made) (both : Both aski
     nodes_same : (node : ℕ) → node_steps node (made ++ at_door ∷ []) ≡ node_steps node made
     nodes_same node = node-snoc node made at_door ∙ append-nil (node_steps node made)
 
-    door_step : DoorStep (record { by = by; act = act }) was behind_door
+    pub door_step : DoorStep (record { by = by; act = act }) was behind_door
     door_step = record { door = door-snoc made at_door; node = nodes_same; others = others_stay asking capacity made at_door }
 
     door_kept : IsMade asking made by (AtDoor place act) → Comes asking capacity made by (AtDoor place act) → Keeps behind_door
@@ -167,7 +167,7 @@ module _ (asking : Asking) (capacity : ℕ) (made : List Made) (both : Both aski
           quiet_turns_keep node capacity entry was behind_node legal_now sight node_step (at_nobody asking entry.by (own_steps entry.by made) is) (at_nobody asking entry.by (own_steps entry.by (made ++ at_node ∷ [])) is) quiet.0 quiet.1 both.0
 
   -- any step
-  step_keeps : (by : By) (turn : Turn) → IsMade asking made by turn → Comes asking capacity made by turn → Both asking capacity (made ++ record { by = by; turn = turn } ∷ [])
+  pub step_keeps : (by : By) (turn : Turn) → IsMade asking made by turn → Comes asking capacity made by turn → Both asking capacity (made ++ record { by = by; turn = turn } ∷ [])
   step_keeps by (AtDoor place act) how comes = door_keeps by place act how comes
   step_keeps by (AtNode node history entry) how comes =
       subst (λ (b : By). IsMade asking made b (AtNode node history entry) → Comes asking capacity made b (AtNode node history entry) → Both asking capacity (made ++ record { by = b; turn = AtNode node history entry } ∷ [])) comes.0

@@ -1,0 +1,10 @@
+mod Members
+mod Reading
+mod Opening
+mod Nodes
+mod Walks
+mod Own
+mod Come
+mod InStages
+mod Retires
+mod LegalRuns
