@@ -138,31 +138,31 @@ finds_told held found = record {
 }
 
 -- an attempt in doubt tells nothing
-doubt_not_gone : (state : AttemptState) → IsTrue (is_in_doubt state) → IsTrue (is_gone state) → ⊥
+pub doubt_not_gone : (state : AttemptState) → IsTrue (is_in_doubt state) → IsTrue (is_gone state) → ⊥
 doubt_not_gone IsGone doubt is = false≢true doubt
 doubt_not_gone state doubt is = false≢true is
 
-doubt_not_running : (state : AttemptState) → IsTrue (is_in_doubt state) → IsTrue (is_running state) → ⊥
+pub doubt_not_running : (state : AttemptState) → IsTrue (is_in_doubt state) → IsTrue (is_running state) → ⊥
 doubt_not_running IsRunning doubt is = false≢true doubt
 doubt_not_running state doubt is = false≢true is
 
-doubt_not_refused : (state : AttemptState) → IsTrue (is_in_doubt state) → IsTrue ((is_opening state || is_committing state) || is_leaving state) → ⊥
+pub doubt_not_refused : (state : AttemptState) → IsTrue (is_in_doubt state) → IsTrue ((is_opening state || is_committing state) || is_leaving state) → ⊥
 doubt_not_refused (IsInDoubt c) doubt is = false≢true is
 doubt_not_refused state doubt is = false≢true doubt
 
 module _ (a : Attempt) where
-  abbrev in_doubt : Option Service → Bool
+  abbrev pub in_doubt : Option Service → Bool
   in_doubt found = in_service (λ serving. is_in_doubt (attempt_state a serving.part)) found
 
   -- what a held attempt passes in a service that it is in doubt in
-  doubted : (test : AttemptState → ℕ → Bool) → ((state : AttemptState) (count : ℕ) → IsTrue (is_in_doubt state) → IsTrue (test state count) → ⊥) → (held : Option Attempt) (found : Option Service) → IsTrue (is_held_attempt held a) → IsTrue (in_doubt found)
+  pub doubted : (test : AttemptState → ℕ → Bool) → ((state : AttemptState) (count : ℕ) → IsTrue (is_in_doubt state) → IsTrue (test state count) → ⊥) → (held : Option Attempt) (found : Option Service) → IsTrue (is_held_attempt held a) → IsTrue (in_doubt found)
       → IsTrue (is_served (λ b serving. test (state_in b serving) (open_reads b serving.part)) held found) → ⊥
   doubted test never None found own doubt is = false≢true own
   doubted test never (Some b) None own doubt is = false≢true doubt
   doubted test never (Some b) (Some serving) own doubt is =
       never (attempt_state b serving.part) (open_reads b serving.part) (subst (λ (c : Attempt). IsTrue (is_in_doubt (attempt_state c serving.part))) (sym (same_attempts b a own)) doubt) (and_parts (eqb b.inc serving.inc) _ is).1
 
-  held_some : (held : Option Attempt) → IsTrue (is_held_attempt held a) → IsTrue (is_none held) → ⊥
+  pub held_some : (held : Option Attempt) → IsTrue (is_held_attempt held a) → IsTrue (is_none held) → ⊥
   held_some None own none = false≢true own
   held_some (Some b) own none = false≢true none
 
@@ -219,7 +219,7 @@ only_this : (x : Bool) → IsTrue (x || false) → IsTrue x
 only_this true is = refl
 only_this false is = is
 
-unread_records : (pair : Pair) → has_reading pair ≡ false → records_in pair ≡ []
+pub unread_records : (pair : Pair) → has_reading pair ≡ false → records_in pair ≡ []
 unread_records pair e =
     let sum : length (records_in pair) + length (markers_in pair) + length (versions_in pair) ≡ 0 = eqb-true (length (records_in pair) + length (markers_in pair) + length (versions_in pair)) 0 (true_from_ne_false _ (λ f. false≢true (sym e ∙ ap not f))) in
     no_length (records_in pair) (omega arith)
@@ -341,7 +341,7 @@ module _ (by : By) (ends : Ends) where
   tail_after storing (Stored b c) line follows = tail_stored storing line (and_parts (same_attempt storing.attempt b && same_commit storing.written.commit c) (release_stored ends storing line) follows).1
   tail_after storing act line follows = absurd (false≢true follows)
 
-  tail_of_stored : (storing : Storing) (line : List Turn) → IsTrue (stored_course ends storing line) → Tail by line
+  pub tail_of_stored : (storing : Storing) (line : List Turn) → IsTrue (stored_course ends storing line) → Tail by line
   tail_of_stored storing (AtNode node before entry ∷ line) follows = elim (or_cases (eqb node storing.attempt.node && stored_after ends storing entry.act line) (ends_in_doubt ends storing tells_no_memory (AtNode node before entry ∷ line)) follows) [
     | inl goes ↦ tail_after storing entry.act line (and_parts (eqb node storing.attempt.node) (stored_after ends storing entry.act line) goes).1
     | inr wants ↦ tail_doubt storing tells_no_memory (AtNode node before entry ∷ line) wants
@@ -350,7 +350,7 @@ module _ (by : By) (ends : Ends) where
   tail_of_stored storing (AtOffice before entry ∷ line) follows = absurd (false≢true follows)
   tail_of_stored storing [] follows = absurd (false≢true follows)
 
-  tail_left : (aborts : Bool) (a : Attempt) (uuid : List ℕ) (line : List Turn) → IsTrue (leave_course aborts ends a uuid line) → Tail by line
+  pub tail_left : (aborts : Bool) (a : Attempt) (uuid : List ℕ) (line : List Turn) → IsTrue (leave_course aborts ends a uuid line) → Tail by line
   tail_left aborts a uuid (AtDoor place (Release released node inc) ∷ line) follows = tail_end a (tells_left aborts) released place node inc line (and_parts (is_release_of a uuid released node inc) _ follows).1
   tail_left aborts a uuid line follows = inl (quiet by a.node (λ state entry. answers_down entry.act entry.answer) line (and_parts (ends_at_node a.node (λ state entry. answers_down entry.act entry.answer) line) (ends_shut_out ends (caller_of a) line) follows).0)
 
@@ -368,7 +368,7 @@ module _ (by : By) (ends : Ends) where
 
 -- ---- any abort
 
-doubt_in : (a : Attempt) (answer : Option Reply) (found : Option Service) → IsTrue (in_service (λ serving. is_in_doubt (attempt_state a serving.part) && is_silent answer) found) → IsTrue (in_doubt a found)
+pub doubt_in : (a : Attempt) (answer : Option Reply) (found : Option Service) → IsTrue (in_service (λ serving. is_in_doubt (attempt_state a serving.part) && is_silent answer) found) → IsTrue (in_doubt a found)
 doubt_in a answer None is = is
 doubt_in a answer (Some serving) is = (and_parts (is_in_doubt (attempt_state a serving.part)) (is_silent answer) is).0
 

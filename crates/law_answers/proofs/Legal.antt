@@ -1,6 +1,6 @@
 -- What a legal trace says of each of its lines: it keeps its course, its turns keep the rules, stand at its node, carry its words and speak of its attempt, and each answer has its cause.
 use Rattle.std.proofs.Common.{◌≡◌, ◌++◌, ℕ, Bool, true, false, ◌&&◌, List, [], ◌∷◌, refl, sym, subst, ◌∙◌, append_assoc, append-nil}
-use Rattle.std.specs.Prelude.{IsTrue, if◌then◌else◌, suc}
+use Rattle.std.specs.Prelude.{IsTrue, Option, if◌then◌else◌, suc}
 use Rattle.std.specs.List.{Contains, fold, list_all}
 use Rattle.std.proofs.lemmas.Bool.{and_from, and_parts, false≢true}
 use Rattle.std.proofs.lemmas.List.Elements.{All-contains}
@@ -22,19 +22,22 @@ use Rattle.aft_model.specs.ScanRun.{same_line}
 use Rattle.aft_lines.specs.Asked.{Asked, Ran}
 use Rattle.aft_lines.specs.Causes.{ExactlyCaused, cause}
 use Rattle.aft_lines.specs.FinishedText.{answers_of, line_of}
-use Rattle.aft_lines.specs.LegalTrace.{LegalTrace, are_legal_nodes}
+use Rattle.aft_lines.specs.LegalTrace.{LegalTrace, act_at, are_legal_nodes}
+use Rattle.aft_lines.specs.LineCourse.{answers_last}
 use Rattle.aft_lines.specs.LineView.{LineView}
 use Rattle.aft_lines.specs.Lines.{lines}
 use Rattle.aft_lines.specs.Turns.{AtDoor, AtNode, AtOffice, Turn, door_turns, node_turns, nodes_turns, office_turns, precedes, with_turn}
 use Rattle.aft_lines.specs.Views.{each_view, view_of}
-use Rattle.law_answers.specs.Courses.{carries_its_words, comes_behind_legal, is_behind_legal, is_legal_turn, is_settled, keeps_its_course, keeps_rules, speaks_of_its_attempt, stands_at_its_node}
+use Rattle.law_answers.specs.Courses.{carries_its_words, comes_behind_legal, is_behind_legal, is_legal_turn, is_settled, keeps_its_course, keeps_rules, reads_clock_in, reads_its_clock, speaks_of_its_attempt, stands_at_its_node}
 use Rattle.law_answers.proofs.Aborts.{aborts_exact}
+use Rattle.law_answers.proofs.Answered.{answered, last_said}
 use Rattle.law_answers.proofs.Announcements.{announcements_exact}
 use Rattle.law_answers.proofs.Backups.{backups_exact}
 use Rattle.law_answers.proofs.Begins.{begins_exact}
 use Rattle.law_answers.proofs.Collects.{collects_exact}
 use Rattle.law_answers.proofs.Crashes.{crashes_exact}
 use Rattle.law_answers.proofs.Deliveries.{deliveries_exact}
+use Rattle.law_answers.proofs.Endings.{commits_exact}
 use Rattle.law_answers.proofs.Forgets.{forgets_exact}
 use Rattle.law_answers.proofs.Gets.{gets_exact}
 use Rattle.law_answers.proofs.Locals.{locals_exact}
@@ -127,6 +130,33 @@ module _ (capacity : ℕ) (by : By) where
       let parts = and_parts (may_be_next before entry) (each_after may_be_next (before ++ entry ∷ []) office) legal in
       one_more (same_line by entry.by) (AtOffice before entry) (office_turns by (before ++ entry ∷ []) office) parts.0 (of_office (before ++ entry ∷ []) office parts.1)
 
+-- ---- turns that read the clock
+
+module _ (clock : Option ℕ) (by : By) where
+  one_timed : (own : Bool) (turn : Turn) (rest : List Turn) → IsTrue (reads_clock_in clock turn) → IsTrue (list_all (reads_clock_in clock) rest) → IsTrue (list_all (reads_clock_in clock) ((if own then turn ∷ [] else []) ++ rest))
+  one_timed true turn rest is all = and_from _ _ is all
+  one_timed false turn rest is all = all
+
+  timed_node : (node : ℕ) (before history : List NodeEntry) → IsTrue (list_all (λ (entry : NodeEntry). act_at clock entry.act) history) → IsTrue (list_all (reads_clock_in clock) (node_turns by node before history))
+  timed_node node before [] all = refl
+  timed_node node before (entry ∷ history) all =
+      let parts = and_parts (act_at clock entry.act) (list_all (λ (entry : NodeEntry). act_at clock entry.act) history) all in
+      one_timed (same_line by entry.by) (AtNode node before entry) (node_turns by node (before ++ entry ∷ []) history) parts.0 (timed_node node (before ++ entry ∷ []) history parts.1)
+
+  timed_nodes : (node : ℕ) (histories : List (List NodeEntry)) → IsTrue (list_all (λ (history : List NodeEntry). list_all (λ (entry : NodeEntry). act_at clock entry.act) history) histories) → IsTrue (list_all (reads_clock_in clock) (nodes_turns by node histories))
+  timed_nodes node [] all = refl
+  timed_nodes node (history ∷ histories) all =
+      let parts = and_parts (list_all (λ (entry : NodeEntry). act_at clock entry.act) history) (list_all (λ (history : List NodeEntry). list_all (λ (entry : NodeEntry). act_at clock entry.act) history) histories) all in
+      all_both (reads_clock_in clock) (node_turns by node [] history) (nodes_turns by (suc node) histories) (timed_node node [] history parts.0) (timed_nodes (suc node) histories parts.1)
+
+  timed_door : (place : ℕ) (door : List DoorEntry) → IsTrue (list_all (reads_clock_in clock) (door_turns by place door))
+  timed_door place [] = refl
+  timed_door place (entry ∷ door) = one_timed (same_line by entry.by) (AtDoor place entry.act) (door_turns by (suc place) door) refl (timed_door (suc place) door)
+
+  timed_office : (before office : List OfficeEntry) → IsTrue (list_all (reads_clock_in clock) (office_turns by before office))
+  timed_office before [] = refl
+  timed_office before (entry ∷ office) = one_timed (same_line by entry.by) (AtOffice before entry) (office_turns by (before ++ entry ∷ []) office) refl (timed_office (before ++ entry ∷ []) office)
+
 -- ---- lines of a legal trace
 
 module _ (asked : Asked) (ran : Ran) (legal : LegalTrace asked ran) (line : Line) where
@@ -149,6 +179,13 @@ module _ (asked : Asked) (ran : Ran) (legal : LegalTrace asked ran) (line : Line
       (behind_nodes asked.settings.cache (line_of line) 1 ran.trace.door ran.trace.nodes legal.nodes) (behind_door asked.settings.cache (line_of line) 0 ran.trace.door))
       (behind_office asked.settings.cache (line_of line) [] ran.trace.office))
 
+  timed : IsTrue (reads_its_clock view)
+  timed =
+      all_sorted (reads_clock_in asked.clock) (nodes_turns (line_of line) 1 ran.trace.nodes ++ door_turns (line_of line) 0 ran.trace.door ++ office_turns (line_of line) [] ran.trace.office) [] refl
+      (all_both (reads_clock_in asked.clock) (nodes_turns (line_of line) 1 ran.trace.nodes ++ door_turns (line_of line) 0 ran.trace.door) (office_turns (line_of line) [] ran.trace.office)
+      (all_both (reads_clock_in asked.clock) (nodes_turns (line_of line) 1 ran.trace.nodes) (door_turns (line_of line) 0 ran.trace.door)
+      (timed_nodes asked.clock (line_of line) 1 ran.trace.nodes legal.clock) (timed_door asked.clock (line_of line) 0 ran.trace.door)) (timed_office asked.clock (line_of line) [] ran.trace.office))
+
   module _ (asks : Contains (lines asked) line) where
     each : (test : LineView → Bool) → IsTrue (each_view test asked ran) → IsTrue (test view)
     each test all = passes (λ (l : Line). test (view_of asked ran l)) (lines asked) line all asks
@@ -163,6 +200,9 @@ module _ (asked : Asked) (ran : Ran) (legal : LegalTrace asked ran) (line : Line
     by_command (commands.Begin uuid node) e is reply answers = begins_exact uuid node view reply e course rules (each carries_its_words legal.words) behind (caused reply answers)
     by_command (commands.Put key value) e is reply answers = puts_exact key value view reply e course (caused reply answers)
     by_command (commands.Get key) e is reply answers = gets_exact key view reply e course rules (each carries_its_words legal.words) (each speaks_of_its_attempt legal.attempts) (caused reply answers)
+    by_command commands.Commit e is reply answers =
+        commits_exact view reply e course rules (each speaks_of_its_attempt legal.attempts) timed
+        (last_said reply view.turns (and_parts (answers_last view.turns) _ course).0 (answered reply (line_of line) ran answers)) (caused reply answers)
     by_command commands.Abort e is reply answers = aborts_exact view reply e course rules (each speaks_of_its_attempt legal.attempts) (caused reply answers)
     by_command (commands.Crash node) e is reply answers = crashes_exact node view reply e course (caused reply answers)
     by_command (commands.Start node) e is reply answers = starts_exact node view reply e course rules (each stands_at_its_node legal.places) (caused reply answers)

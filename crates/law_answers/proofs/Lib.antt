@@ -19,3 +19,8 @@ pub mod Aborts
 pub mod Backups
 pub mod Works
 pub mod Collects
+pub mod Storings
+pub mod Commits
+pub mod Finishes
+pub mod Endings
+pub mod Answered

@@ -1,15 +1,16 @@
 -- Lines that keep their course, by their view, and what a legal trace says of their turns beside it.
-use Rattle.std.specs.Prelude.{Bool, false, not, true, ℕ, ◌||◌}
+use Rattle.std.specs.Prelude.{Bool, List, None, Option, [], false, not, true, ℕ, ◌||◌, ◌∷◌}
 use Rattle.std.specs.List.{list_all}
+use Rattle.aft_model.specs.declared.reply.Reply.{Reply}
 use Rattle.aft_model.specs.declared.script.Command.{Command}
 use Rattle.aft_model.specs.LegalNode.{is_legal_node, may_follow_at}
 use Rattle.aft_model.specs.Office.{may_be_next}
 use Rattle.aft_lines.specs.CausesAttempts.{speaks_of_attempt}
-use Rattle.aft_lines.specs.LegalTrace.{named_node, stands_at, turn_of, turn_words}
+use Rattle.aft_lines.specs.LegalTrace.{act_at, named_node, stands_at, turn_of, turn_words}
 use Rattle.aft_lines.specs.LineCourse.{keeps_course}
 use Rattle.aft_lines.specs.LineView.{LineView, ends_of}
 use Rattle.aft_lines.specs.Lines.{node_numbers}
-use Rattle.aft_lines.specs.Turns.{AtDoor, AtNode, AtOffice, Turn}
+use Rattle.aft_lines.specs.Turns.{AtDoor, AtNode, AtOffice, Turn, answer_in}
 use Rattle.aft_model.specs.declared.script.Command.TheVariants as commands
 
 -- whether a line, as it ran, kept the course of its command
@@ -48,11 +49,28 @@ carries_its_words view = list_all (turn_words view.command) view.turns
 abbrev pub speaks_of_its_attempt : LineView → Bool
 speaks_of_its_attempt view = not (speaks_of_attempt view.command) || list_all (turn_of view.hold.attempt) view.turns
 
--- the commands of which it is proved that their lines leave out nothing: begin, put, get, abort, crash, start, announce, deliver, local, manager, collect, forget and backup
+-- whether a turn that reads the clock has its time
+abbrev pub reads_clock_in : Option ℕ → Turn → Bool
+reads_clock_in clock (AtDoor place act) = true
+reads_clock_in clock (AtNode node before entry) = act_at clock entry.act
+reads_clock_in clock (AtOffice before entry) = true
+
+-- whether each turn of a line does
+abbrev pub reads_its_clock : LineView → Bool
+reads_its_clock view = list_all (reads_clock_in view.clock) view.turns
+
+-- what the last of some turns answered
+abbrev pub last_answer : List Turn → Option Reply
+last_answer [] = None
+last_answer (turn ∷ []) = answer_in turn
+last_answer (turn ∷ next ∷ line) = last_answer (next ∷ line)
+
+-- the commands of which it is proved that their lines leave out nothing: begin, put, get, commit, abort, crash, start, announce, deliver, local, manager, collect, forget and backup
 abbrev pub is_settled : Command → Bool
 is_settled (commands.Begin uuid node) = true
 is_settled (commands.Put key value) = true
 is_settled (commands.Get key) = true
+is_settled commands.Commit = true
 is_settled commands.Abort = true
 is_settled (commands.Crash node) = true
 is_settled (commands.Start node) = true

@@ -1,9 +1,9 @@
 //! Laws of answers, as calls that do nothing and promise them.
 
-ghost use Rattle.std.specs.Prelude.{◌≡◌, ℕ, IsTrue, List};
+ghost use Rattle.std.specs.Prelude.{◌≡◌, ℕ, IsTrue, List, Some};
 ghost use Rattle.std.specs.List.{Contains};
 ghost use Rattle.aft_model.specs.declared.reply.Reply.{Reply};
-ghost use Rattle.aft_model.specs.declared.script.Command.TheVariants.{Abort, Announce, Backup, Begin, Collect, Crash, Deliver, Forget, Get, Local, Manager, Put, Start};
+ghost use Rattle.aft_model.specs.declared.script.Command.TheVariants.{Abort, Announce, Backup, Begin, Collect, Commit, Crash, Deliver, Forget, Get, Local, Manager, Put, Start};
 ghost use Rattle.aft_model.specs.declared.script.Line.{Line};
 ghost use Rattle.aft_lines.specs.Asked.{Asked, Ran};
 ghost use Rattle.aft_lines.specs.Causes.{Caused, ExactlyCaused};
@@ -12,7 +12,7 @@ ghost use Rattle.aft_lines.specs.LegalTrace.{LegalTrace};
 ghost use Rattle.aft_lines.specs.LineView.{LineView};
 ghost use Rattle.aft_lines.specs.Lines.{lines};
 ghost use Rattle.aft_lines.specs.Views.{view_of};
-ghost use Rattle.law_answers.specs.Courses.{carries_its_words, comes_behind_legal, is_settled, keeps_its_course, keeps_rules, speaks_of_its_attempt, stands_at_its_node};
+ghost use Rattle.law_answers.specs.Courses.{carries_its_words, comes_behind_legal, is_settled, keeps_its_course, keeps_rules, last_answer, reads_its_clock, speaks_of_its_attempt, stands_at_its_node};
 
 /// Where a put keeps its course, each reply whose cause it has leaves out no other.
 pub fn puts_leave_out_nothing()
@@ -74,6 +74,12 @@ pub fn aborts_leave_out_nothing()
     ensures { (view : LineView) (reply : Reply) → view.command ≡ Abort → IsTrue (keeps_its_course view) → IsTrue (keeps_rules view) → IsTrue (speaks_of_its_attempt view) → Caused view reply → ExactlyCaused view reply }
 {}
 
+/// Where a commit keeps its course, by turns that keep their node's rules, speak of the attempt that its client holds and read the
+/// clock, the reply of its last turn, where its cause is, leaves out no other.
+pub fn commits_leave_out_nothing()
+    ensures { (view : LineView) (reply : Reply) → view.command ≡ Commit → IsTrue (keeps_its_course view) → IsTrue (keeps_rules view) → IsTrue (speaks_of_its_attempt view) → IsTrue (reads_its_clock view) → last_answer view.turns ≡ Some reply → Caused view reply → ExactlyCaused view reply }
+{}
+
 /// Where a copy keeps its course, each reply whose cause it has leaves out no other.
 pub fn backups_leave_out_nothing()
     ensures { (view : LineView) (reply : Reply) → view.command ≡ Backup → IsTrue (keeps_its_course view) → Caused view reply → ExactlyCaused view reply }
@@ -86,7 +92,7 @@ pub fn collects_leave_out_nothing()
 {}
 
 /// In a legal trace no reply to a line of these commands leaves out another that comes exactly where its cause is: begin, put, get,
-/// abort, crash, start, announce, deliver, local, manager, collect, forget, backup.
+/// commit, abort, crash, start, announce, deliver, local, manager, collect, forget, backup.
 pub fn legal_lines_leave_out_nothing()
     ensures { (asked : Asked) (ran : Ran) (line : Line) (reply : Reply) → LegalTrace asked ran → Contains (lines asked) line → IsTrue (is_settled line.order) → Contains (answers_of (line_of line) ran) reply → ExactlyCaused (view_of asked ran line) reply }
 {}
