@@ -12,7 +12,7 @@ add-requires-clause-new c = absent c.self.inside.begun c.self.inside.attempts.en
 pub add-requires-clause-unused : goal.add-requires-clause-unused
 add-requires-clause-unused c =
     let t = c.self.inside in
-    unused-number c.self.invariant c.new-txn.result.uuid (ap (λ u. row_of_uuid u (as_rows t.attempts.entries)) (ap (λ (r : Row). r.uuid) (c.new-txn.ensures.row 0)) ∙ ap (λ (s : Table). row_of_uuid c.args.uuid s.rows) c.self.view_is ∙ c.requires.new)
+    unused-number c.self.invariant c.new-txn.result.uuid (ap (λ u. row_of_uuid u (as_rows t.attempts.entries)) (ap (λ (r : Row). r.uuid) (c.new-txn.ensures.row t.begun)) ∙ ap (λ (s : Table). row_of_uuid c.args.uuid s.rows) c.self.view_is ∙ c.requires.new)
 
 pub invariant_of-self : goal.invariant_of-self
 invariant_of-self c = rw c.in_err-add.ensures.same_attempts (kept-numbers c.self.invariant c.add.new.numbers.entries c.in_err-add.ensures.same_numbers)
