@@ -30,7 +30,7 @@ use Rattle.aft_lines.specs.CausesScans.{damage_in, listed_in, unfound_in}
 use Rattle.aft_lines.specs.CourseWords.{Ends, ends_at_office}
 use Rattle.aft_lines.specs.LineView.{LineView, door_entry_in, ends_of, found_service}
 use Rattle.aft_lines.specs.OrphanCourse.{VersionAt}
-use Rattle.aft_lines.specs.ScanCourse.{Scanned}
+use Rattle.aft_lines.specs.ScanCourse.{Scanned, copy_limit, names_limit}
 use Rattle.aft_lines.specs.Turns.{AtDoor, AtNode, AtOffice, Turn}
 use Rattle.law_answers.specs.Courses.{keeps_its_course}
 use Rattle.law_answers.proofs.Faults.{damage_told, failed_so, many_told, otherwise_told, told_faults}
@@ -112,17 +112,17 @@ unspoiled_so (e ∷ done) a b =
     ap (λ (ns : List (List ℕ)). (ns ++ unfound_in e.act) ++ spoiled done) x.0 ∙ ap (λ (ns : List (List ℕ)). ns ++ spoiled done) y.0 ∙ unspoiled_so done x.1 y.1
 
 module _ (by : By) (who : Incarnation) (line : List Turn) (run : Scanned) where
-  pub records_clean : (most : ℕ) (its : Run most by who records_prefix [] [] line run) → Clean run.is_whole (entries by its.made) most 0
+  pub records_clean : (most : ℕ) (its : Run (record { most = most; judges = true }) by who records_prefix [] [] line run) → Clean run.is_whole (entries by its.made) most 0
   records_clean most its = record {
-    unspoiled = λ is. unspoiled_so (entries by its.made) (its.fair is) its.found;
+    unspoiled = λ is. unspoiled_so (entries by its.made) (its.fair refl is) its.found;
     few_records = λ is. (let few : 0 + length (shown_of records_prefix (entries by its.made)) ≤ most = its.few is in omega arith);
     few_markers = λ is. (let none : length (shown_of markers_prefix (entries by its.made)) ≡ 0 = ap length (its.others markers_prefix refl) in omega arith);
     unfailed = its.unfailed;
   }
 
-  pub markers_clean : (its : Run 20000 by who markers_prefix [] [] line run) → Clean run.is_whole (entries by its.made) 0 20000
+  pub markers_clean : (its : Run names_limit by who markers_prefix [] [] line run) → Clean run.is_whole (entries by its.made) 0 20000
   markers_clean its = record {
-    unspoiled = λ is. unspoiled_so (entries by its.made) (its.fair is) its.found;
+    unspoiled = λ is. unspoiled_so (entries by its.made) (its.fair refl is) its.found;
     few_records = λ is. (let none : length (shown_of records_prefix (entries by its.made)) ≡ 0 = ap length (its.others records_prefix refl) in omega arith);
     few_markers = λ is. (let few : 0 + length (shown_of markers_prefix (entries by its.made)) ≤ 20000 = its.few is in omega arith);
     unfailed = its.unfailed;
@@ -235,14 +235,14 @@ module _ (by : By) (ends : Ends) (own : Copier) (line : List Turn) where
 
   by_scans : (r : Bool) → shown.is_whole ≡ r → (m : Bool) → marked.is_whole ≡ m → IsTrue (fence_course own.who (copy_by r m).is_whole (copy_by r m).behind) → Clean (copy_by r m).is_whole (entries by line) 4000 20000
   by_scans false e m f follows =
-      let first = run_of 4000 by own.who records_prefix [] [] line (omega arith) in
+      let first = run_of copy_limit by own.who records_prefix [] [] line (omega arith) in
       let last = fenced_clean by own.who false shown.behind follows in
       subst (λ (es : List DoorEntry). Clean false es 4000 20000) (sym (entries_of by line first.made shown.behind first.splits))
       (loosened false (entries by first.made ++ entries by shown.behind) 4000 0 4000 20000 (omega arith) (omega arith)
       (before_whole (entries by first.made) (entries by shown.behind) 4000 0 0 0 false (subst (λ (w : Bool). Clean w (entries by first.made) 4000 0) e (records_clean by own.who line shown 4000 first)) last))
   by_scans true e false f follows =
-      let first = run_of 4000 by own.who records_prefix [] [] line (omega arith) in
-      let second = run_of 20000 by own.who markers_prefix [] [] shown.behind (omega arith) in
+      let first = run_of copy_limit by own.who records_prefix [] [] line (omega arith) in
+      let second = run_of names_limit by own.who markers_prefix [] [] shown.behind (omega arith) in
       let last = fenced_clean by own.who false marked.behind follows in
       let rest : Clean false (entries by shown.behind) 0 20000 =
       subst (λ (es : List DoorEntry). Clean false es 0 20000) (sym (entries_of by shown.behind second.made marked.behind second.splits))
@@ -250,8 +250,8 @@ module _ (by : By) (ends : Ends) (own : Copier) (line : List Turn) where
       subst (λ (es : List DoorEntry). Clean false es 4000 20000) (sym (entries_of by line first.made shown.behind first.splits))
       (behind_whole (entries by first.made) (entries by shown.behind) 4000 0 0 20000 false (subst (λ (w : Bool). Clean w (entries by first.made) 4000 0) e (records_clean by own.who line shown 4000 first)) rest)
   by_scans true e true f follows =
-      let first = run_of 4000 by own.who records_prefix [] [] line (omega arith) in
-      let second = run_of 20000 by own.who markers_prefix [] [] shown.behind (omega arith) in
+      let first = run_of copy_limit by own.who records_prefix [] [] line (omega arith) in
+      let second = run_of names_limit by own.who markers_prefix [] [] shown.behind (omega arith) in
       let third = gots by own.who works marked.behind in
       let got : Got = copies own.who works marked.behind in
       let last = fenced_clean by own.who got.is_whole got.behind follows in

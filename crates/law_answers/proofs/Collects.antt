@@ -32,7 +32,7 @@ use Rattle.aft_lines.specs.CollectCourse.{Collecting, Collection, Ended, IsFault
 use Rattle.aft_lines.specs.CourseWords.{Ends, ends_at_office}
 use Rattle.aft_lines.specs.LineView.{LineView, ends_of, found_service}
 use Rattle.aft_lines.specs.Lines.{node_numbers}
-use Rattle.aft_lines.specs.ScanCourse.{Scanned}
+use Rattle.aft_lines.specs.ScanCourse.{Scanned, names_limit}
 use Rattle.aft_lines.specs.Turns.{AtDoor, AtNode, AtOffice, Turn, end_front}
 use Rattle.law_answers.specs.Courses.{keeps_its_course, keeps_rules}
 use Rattle.law_answers.proofs.Backups.{Clean, before_whole, behind_whole, entries_of, loosened, markers_clean, no_parts, records_clean, shown_of, spoiled}
@@ -124,11 +124,11 @@ module _ (by : By) (ends : Ends) (nodes : List ℕ) (line : List Turn) where
   abbrev made_by : Bool → Bool → Collection
   made_by r m = if r then (if m then works_through way nodes works marked.behind else record { ended = []; behind = marked.behind }) else record { ended = []; behind = shown.behind }
 
-  first : Run 20000 by the_office records_prefix [] [] line shown
-  first = run_of 20000 by the_office records_prefix [] [] line (omega arith)
+  first : Run names_limit by the_office records_prefix [] [] line shown
+  first = run_of names_limit by the_office records_prefix [] [] line (omega arith)
 
-  second : Run 20000 by the_office markers_prefix [] [] shown.behind marked
-  second = run_of 20000 by the_office markers_prefix [] [] shown.behind (omega arith)
+  second : Run names_limit by the_office markers_prefix [] [] shown.behind marked
+  second = run_of names_limit by the_office markers_prefix [] [] shown.behind (omega arith)
 
   first_clean : (w : Bool) → shown.is_whole ≡ w → Clean w (entries by first.made) 20000 0
   first_clean w e = subst (λ (b : Bool). Clean b (entries by first.made) 20000 0) e (records_clean by the_office line shown 20000 first)

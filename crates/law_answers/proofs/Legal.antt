@@ -2,10 +2,10 @@
 use Rattle.std.proofs.Common.{◌≡◌, ◌++◌, ℕ, Bool, true, false, ◌&&◌, List, [], ◌∷◌, refl, sym, subst, ◌∙◌, append_assoc, append-nil}
 use Rattle.std.specs.Prelude.{IsTrue, Option, if◌then◌else◌, suc}
 use Rattle.std.specs.List.{Contains, fold, list_all}
-use Rattle.std.proofs.lemmas.Bool.{and_from, and_parts, false≢true}
-use Rattle.std.proofs.lemmas.List.Elements.{All-contains}
+use Rattle.std.proofs.lemmas.Bool.{and_from, and_parts}
+use Rattle.std.proofs.lemmas.List.Elements.{All-contains, All-contains_itself, All-weaker}
 use Rattle.std.proofs.lemmas.List.Folds.{list_all-append}
-use Rattle.std.proofs.lemmas.List.Sums.{AllPass-from_list_all}
+use Rattle.std.proofs.lemmas.List.Sums.{AllPass-from_list_all, list_all-from_AllPass}
 use Rattle.aft_model.specs.declared.caller.By.{By}
 use Rattle.aft_model.specs.declared.door.DoorEntry.{DoorEntry}
 use Rattle.aft_model.specs.declared.node.NodeEntry.{NodeEntry}
@@ -20,15 +20,15 @@ use Rattle.aft_model.specs.NodeSights.{is_seen_node}
 use Rattle.aft_model.specs.Office.{is_legal_alone, is_legal_beside, may_be_next}
 use Rattle.aft_model.specs.ScanRun.{same_line}
 use Rattle.aft_lines.specs.Asked.{Asked, Ran}
-use Rattle.aft_lines.specs.Causes.{ExactlyCaused, cause}
+use Rattle.aft_lines.specs.Causes.{ExactlyCaused, cause, may_leave_out}
 use Rattle.aft_lines.specs.FinishedText.{answers_of, line_of}
 use Rattle.aft_lines.specs.LegalTrace.{LegalTrace, act_at, are_legal_nodes}
 use Rattle.aft_lines.specs.LineCourse.{answers_last}
 use Rattle.aft_lines.specs.LineView.{LineView}
 use Rattle.aft_lines.specs.Lines.{lines}
 use Rattle.aft_lines.specs.Turns.{AtDoor, AtNode, AtOffice, Turn, door_turns, node_turns, nodes_turns, office_turns, precedes, with_turn}
-use Rattle.aft_lines.specs.Views.{each_view, view_of}
-use Rattle.law_answers.specs.Courses.{carries_its_words, comes_behind_legal, is_behind_legal, is_legal_turn, is_settled, keeps_its_course, keeps_rules, reads_clock_in, reads_its_clock, speaks_of_its_attempt, stands_at_its_node}
+use Rattle.aft_lines.specs.Views.{LeavesOutNothing, each_view, view_of}
+use Rattle.law_answers.specs.Courses.{carries_its_words, comes_behind_legal, is_behind_legal, is_legal_turn, keeps_its_course, keeps_rules, reads_clock_in, reads_its_clock, speaks_of_its_attempt, stands_at_its_node}
 use Rattle.law_answers.proofs.Aborts.{aborts_exact}
 use Rattle.law_answers.proofs.Answered.{answered, last_said}
 use Rattle.law_answers.proofs.Announcements.{announcements_exact}
@@ -42,6 +42,7 @@ use Rattle.law_answers.proofs.Forgets.{forgets_exact}
 use Rattle.law_answers.proofs.Gets.{gets_exact}
 use Rattle.law_answers.proofs.Locals.{locals_exact}
 use Rattle.law_answers.proofs.Managers.{managers_exact}
+use Rattle.law_answers.proofs.Orphans.{orphans_exact}
 use Rattle.law_answers.proofs.Puts.{puts_exact}
 use Rattle.law_answers.proofs.Starts.{starts_exact}
 
@@ -196,24 +197,33 @@ module _ (asked : Asked) (ran : Ran) (legal : LegalTrace asked ran) (line : Line
     caused : (reply : Reply) → Contains (answers_of (line_of line) ran) reply → IsTrue (cause view reply)
     caused reply answers = passes (cause view) (answers_of (line_of line) ran) reply (passes (λ (l : Line). list_all (cause (view_of asked ran l)) (answers_of (line_of l) ran)) (lines asked) line legal.causes asks) answers
 
-    by_command : (command : Command) → view.command ≡ command → IsTrue (is_settled command) → (reply : Reply) → Contains (answers_of (line_of line) ran) reply → ExactlyCaused view reply
-    by_command (commands.Begin uuid node) e is reply answers = begins_exact uuid node view reply e course rules (each carries_its_words legal.words) behind (caused reply answers)
-    by_command (commands.Put key value) e is reply answers = puts_exact key value view reply e course (caused reply answers)
-    by_command (commands.Get key) e is reply answers = gets_exact key view reply e course rules (each carries_its_words legal.words) (each speaks_of_its_attempt legal.attempts) (caused reply answers)
-    by_command commands.Commit e is reply answers =
+    by_command : (command : Command) → view.command ≡ command → (reply : Reply) → Contains (answers_of (line_of line) ran) reply → ExactlyCaused view reply
+    by_command (commands.Begin uuid node) e reply answers = begins_exact uuid node view reply e course rules (each carries_its_words legal.words) behind (caused reply answers)
+    by_command (commands.Put key value) e reply answers = puts_exact key value view reply e course (caused reply answers)
+    by_command (commands.Get key) e reply answers = gets_exact key view reply e course rules (each carries_its_words legal.words) (each speaks_of_its_attempt legal.attempts) (caused reply answers)
+    by_command commands.Commit e reply answers =
         commits_exact view reply e course rules (each speaks_of_its_attempt legal.attempts) timed
         (last_said reply view.turns (and_parts (answers_last view.turns) _ course).0 (answered reply (line_of line) ran answers)) (caused reply answers)
-    by_command commands.Abort e is reply answers = aborts_exact view reply e course rules (each speaks_of_its_attempt legal.attempts) (caused reply answers)
-    by_command (commands.Crash node) e is reply answers = crashes_exact node view reply e course (caused reply answers)
-    by_command (commands.Start node) e is reply answers = starts_exact node view reply e course rules (each stands_at_its_node legal.places) (caused reply answers)
-    by_command (commands.Announce node) e is reply answers = announcements_exact node view reply e course (caused reply answers)
-    by_command (commands.Deliver node) e is reply answers = deliveries_exact node view reply e course (caused reply answers)
-    by_command (commands.Local node) e is reply answers = locals_exact node view reply e course (caused reply answers)
-    by_command commands.Manager e is reply answers = managers_exact view reply e course (caused reply answers)
-    by_command (commands.Forget uuid node) e is reply answers = forgets_exact uuid node view reply e course rules (each carries_its_words legal.words) (caused reply answers)
-    by_command commands.Collect e is reply answers = collects_exact view reply e course rules (caused reply answers)
-    by_command commands.Backup e is reply answers = backups_exact view reply e course (caused reply answers)
-    by_command command e is reply answers = absurd (false≢true is)
+    by_command commands.Abort e reply answers = aborts_exact view reply e course rules (each speaks_of_its_attempt legal.attempts) (caused reply answers)
+    by_command (commands.Crash node) e reply answers = crashes_exact node view reply e course (caused reply answers)
+    by_command (commands.Start node) e reply answers = starts_exact node view reply e course rules (each stands_at_its_node legal.places) (caused reply answers)
+    by_command (commands.Announce node) e reply answers = announcements_exact node view reply e course (caused reply answers)
+    by_command (commands.Deliver node) e reply answers = deliveries_exact node view reply e course (caused reply answers)
+    by_command (commands.Local node) e reply answers = locals_exact node view reply e course (caused reply answers)
+    by_command commands.Manager e reply answers = managers_exact view reply e course (caused reply answers)
+    by_command (commands.Forget uuid node) e reply answers = forgets_exact uuid node view reply e course rules (each carries_its_words legal.words) (caused reply answers)
+    by_command commands.Collect e reply answers = collects_exact view reply e course rules (caused reply answers)
+    by_command commands.Backup e reply answers = backups_exact view reply e course (caused reply answers)
+    by_command (commands.Orphans key) e reply answers = orphans_exact key view reply e course (caused reply answers)
 
-pub legal_exact : (asked : Asked) (ran : Ran) (line : Line) (reply : Reply) → LegalTrace asked ran → Contains (lines asked) line → IsTrue (is_settled line.order) → Contains (answers_of (line_of line) ran) reply → ExactlyCaused (view_of asked ran line) reply
-legal_exact asked ran line reply legal asks is answers = by_command asked ran legal line asks line.order refl is reply answers
+pub legal_exact : (asked : Asked) (ran : Ran) (line : Line) (reply : Reply) → LegalTrace asked ran → Contains (lines asked) line → Contains (answers_of (line_of line) ran) reply → ExactlyCaused (view_of asked ran line) reply
+legal_exact asked ran line reply legal asks answers = by_command asked ran legal line asks line.order refl reply answers
+
+-- a list passes a test where each of its elements does
+all_pass : {A : Type 0} (test : A → Bool) (xs : List A) → ((x : A) → Contains xs x → IsTrue (test x)) → IsTrue (list_all test xs)
+all_pass test xs each = list_all-from_AllPass test xs (All-weaker (Contains xs) (λ x. IsTrue (test x)) each xs (All-contains_itself xs))
+
+pub legal_leaves_nothing : (asked : Asked) (ran : Ran) → LegalTrace asked ran → LeavesOutNothing asked ran
+legal_leaves_nothing asked ran legal other =
+    all_pass (λ (line : Line). list_all (λ (reply : Reply). may_leave_out (view_of asked ran line) reply other) (answers_of (line_of line) ran)) (lines asked)
+    (λ line asks. all_pass (λ (reply : Reply). may_leave_out (view_of asked ran line) reply other) (answers_of (line_of line) ran) (λ reply answers. legal_exact asked ran line reply legal asks answers other))

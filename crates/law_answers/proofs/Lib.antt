@@ -19,6 +19,8 @@ pub mod Aborts
 pub mod Backups
 pub mod Works
 pub mod Collects
+pub mod Ways
+pub mod Orphans
 pub mod Storings
 pub mod Commits
 pub mod Finishes

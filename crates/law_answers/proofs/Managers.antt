@@ -20,7 +20,7 @@ use Rattle.aft_lines.specs.CollectCourse.{records_scan}
 use Rattle.aft_lines.specs.CourseWords.{ends_at_office, is_over, office_answers}
 use Rattle.aft_lines.specs.LineCourse.{ends_round, manager_course, round_after, round_course}
 use Rattle.aft_lines.specs.LineView.{LineView, found_service}
-use Rattle.aft_lines.specs.ScanCourse.{Scanned}
+use Rattle.aft_lines.specs.ScanCourse.{Scanned, names_limit}
 use Rattle.aft_lines.specs.Turns.{AtDoor, AtNode, AtOffice, Turn}
 use Rattle.law_answers.specs.Courses.{keeps_its_course}
 use Rattle.law_answers.proofs.Faults.{damage_told, failed_so, many_told, otherwise_told, told_faults}
@@ -106,8 +106,8 @@ module _ (view : LineView) (turns : List Turn) (follows : IsTrue (manager_course
   abbrev scan : Scanned
   scan = records_scan turns
 
-  run : Run 20000 view.by the_office records_prefix [] [] turns scan
-  run = run_of 20000 view.by the_office records_prefix [] [] turns (omega arith)
+  run : Run names_limit view.by the_office records_prefix [] [] turns scan
+  run = run_of names_limit view.by the_office records_prefix [] [] turns (omega arith)
 
   fair : Fair (fails view.by turns) scan.is_whole (many view.by turns) (damaged view.by turns)
   fair = records_fair view.by the_office turns scan run (quiet view.by scan.is_whole scan.behind follows)

@@ -19,9 +19,9 @@ use Rattle.aft_model.specs.ScanRun.{ends, is_scan_run, next_after, page_limit, s
 use Rattle.aft_model.specs.Sound.{markers_prefix, records_prefix}
 use Rattle.aft_model.proofs.Sights.{bytes_eq-refl, same_bytes}
 use Rattle.aft_lines.specs.CausesRounds.{office_act_in}
-use Rattle.aft_lines.specs.CausesScans.{damage_in, is_damage, listed_in, unfound_in}
+use Rattle.aft_lines.specs.CausesScans.{damage_in, is_damage, is_page_act, listed_in, unfound_in}
 use Rattle.aft_lines.specs.LineView.{door_entry_in, node_turn_in}
-use Rattle.aft_lines.specs.ScanCourse.{ScanLimit, Scanned, behind_good_page, scanned_from, stopped_at}
+use Rattle.aft_lines.specs.ScanCourse.{ScanLimit, Scanned, behind_good_page, names_limit, scanned_from, stopped_at}
 use Rattle.aft_lines.specs.Turns.{AtDoor, Turn}
 
 -- what turns did at the door, whether a call of them failed, the names of the damage that they were shown, and what their pages list of a prefix
@@ -37,19 +37,16 @@ damaged by line = flat_map (damage_in None) (entries by line)
 abbrev pub names : By → List ℕ → List Turn → List Pair
 names by prefix line = flat_map (λ entry. listed_in prefix entry.act) (entries by line)
 
--- a limit by which what has no reading stops a run
-abbrev pub judging : ℕ → ScanLimit
-judging most = record { most = most; judges = true }
-
--- what the turns of a run show, where these pairs were listed before them
-pub record Run (most : ℕ) (by : By) (who : Incarnation) (prefix after : List ℕ) (listed : List Pair) (line : List Turn) (run : Scanned) : Type 0 where
+-- what the turns of a run by this limit show, where these pairs were listed before them
+pub record Run (bound : ScanLimit) (by : By) (who : Incarnation) (prefix after : List ℕ) (listed : List Pair) (line : List Turn) (run : Scanned) : Type 0 where
   pub made : List Turn
   pub splits : line ≡ made ++ run.behind
-  pub fair : IsTrue (run.is_whole || fails by made) → damaged by made ≡ []
-  pub few : IsTrue (run.is_whole || fails by made) → length listed + length (names by prefix made) ≤ most
+  pub fair : IsTrue bound.judges → IsTrue (run.is_whole || fails by made) → damaged by made ≡ []
+  pub few : IsTrue (run.is_whole || fails by made) → length listed + length (names by prefix made) ≤ bound.most
   pub unfailed : IsTrue run.is_whole → fails by made ≡ false
   pub others : (other : List ℕ) → bytes_eq other prefix ≡ false → names by other made ≡ []
   pub found : flat_map (λ (entry : DoorEntry). unfound_in entry.act) (entries by made) ≡ []
+  pub paged : IsTrue (list_all (λ (entry : DoorEntry). is_page_act entry.act) (entries by made))
   pub at_office : flat_map office_act_in made ≡ []
   pub at_nodes : flat_map node_turn_in made ≡ []
   pub unended : IsTrue (fails by made) → ends (Some after) (scan_pages who by prefix (entries by made)) ≡ false
@@ -63,17 +60,23 @@ no_damage (pair ∷ pairs) all = (let parts = and_parts (has_reading pair) (list
 line_same : (by : By) → IsTrue (same_line by by)
 line_same by = and_from _ _ (eq-eqb by.client by.client refl) (eq-eqb by.line by.line refl)
 
-module _ (most : ℕ) (by : By) (who : Incarnation) (prefix : List ℕ) where
+-- pairs that are judged and all pass have a reading
+judged_all : (judges : Bool) (pairs : List Pair) → IsTrue judges → IsTrue (not judges || list_all has_reading pairs) → IsTrue (list_all has_reading pairs)
+judged_all true pairs is all = all
+judged_all false pairs is all = absurd (false≢true is)
+
+module _ (bound : ScanLimit) (by : By) (who : Incarnation) (prefix : List ℕ) where
   -- a run that stops before a turn
-  stops_here : (after : List ℕ) (listed : List Pair) (line : List Turn) → Run most by who prefix after listed line (stopped_at listed line)
+  stops_here : (after : List ℕ) (listed : List Pair) (line : List Turn) → Run bound by who prefix after listed line (stopped_at listed line)
   stops_here after listed line = record {
     made = [];
     splits = refl;
-    fair = λ is. refl;
+    fair = λ judges is. refl;
     few = λ is. absurd (false≢true is);
     unfailed = λ is. absurd (false≢true is);
     others = λ other e. refl;
     found = refl;
+    paged = refl;
     at_office = refl;
     at_nodes = refl;
     unended = λ is. absurd (false≢true is);
@@ -107,26 +110,28 @@ module _ (most : ℕ) (by : By) (who : Incarnation) (prefix : List ℕ) where
       here = AtDoor place (Call node inc (Scan scanned begins limit) (Page pairs))
 
       -- a page that stops the run
-      stopped : IsTrue is_next → Run most by who prefix after listed (here ∷ line) (stopped_at (listed ++ pairs) line)
+      stopped : IsTrue is_next → Run bound by who prefix after listed (here ∷ line) (stopped_at (listed ++ pairs) line)
       stopped own = record {
         made = here ∷ [];
         splits = refl;
-        fair = λ is. absurd (false≢true is);
+        fair = λ judges is. absurd (false≢true is);
         few = λ is. absurd (false≢true is);
         unfailed = λ is. absurd (false≢true is);
         others = λ other e. of_other other scanned pairs (its_prefix own) e;
         found = refl;
+        paged = refl;
         at_office = refl;
         at_nodes = refl;
         unended = λ is. absurd (false≢true is);
       }
 
-      module _ (own : IsTrue is_next) (good : IsTrue (leb (length listed + length pairs) most && list_all has_reading pairs)) where
-        page_fair : damaged by (here ∷ []) ≡ []
-        page_fair = (ap (λ (ns : List (List ℕ)). ns ++ []) (no_damage pairs (and_parts (leb (length listed + length pairs) most) (list_all has_reading pairs) good).1))
+      module _ (own : IsTrue is_next) (good : IsTrue (leb (length listed + length pairs) bound.most && (not bound.judges || list_all has_reading pairs))) where
+        -- where pairs are judged, the page, before more damage, shows none
+        page_fair : IsTrue bound.judges → (more : List (List ℕ)) → map (λ (pair : Pair). pair.name) (filter (is_damage None) pairs) ++ more ≡ more
+        page_fair judges more = ap (λ (ns : List (List ℕ)). ns ++ more) (no_damage pairs (judged_all bound.judges pairs judges (and_parts (leb (length listed + length pairs) bound.most) (not bound.judges || list_all has_reading pairs) good).1))
 
-        room : length listed + length pairs ≤ most
-        room = leb-true (length listed + length pairs) most (and_parts (leb (length listed + length pairs) most) (list_all has_reading pairs) good).0
+        room : length listed + length pairs ≤ bound.most
+        room = leb-true (length listed + length pairs) bound.most (and_parts (leb (length listed + length pairs) bound.most) (not bound.judges || list_all has_reading pairs) good).0
 
         -- what the page lists of the run's prefix, before more
         page_names : (more : List Pair) → (if bytes_eq prefix scanned then pairs else []) ++ more ≡ pairs ++ more
@@ -136,22 +141,23 @@ module _ (most : ℕ) (by : By) (who : Incarnation) (prefix : List ℕ) where
             bytes_same p = bytes_eq-refl p
 
         -- the last page
-        ended : Run most by who prefix after listed (here ∷ line) (record { listed = listed ++ pairs; is_whole = true; behind = line })
+        ended : Run bound by who prefix after listed (here ∷ line) (record { listed = listed ++ pairs; is_whole = true; behind = line })
         ended = record {
           made = here ∷ [];
           splits = refl;
-          fair = λ is. page_fair;
-          few = λ is. (let e : length ((if bytes_eq prefix scanned then pairs else []) ++ []) ≡ length (pairs ++ []) = ap length (page_names []) in let n : length (pairs ++ []) ≡ length pairs = append_none pairs in let r : length listed + length pairs ≤ most = room in omega arith);
+          fair = λ judges is. page_fair judges [];
+          few = λ is. (let e : length ((if bytes_eq prefix scanned then pairs else []) ++ []) ≡ length (pairs ++ []) = ap length (page_names []) in let n : length (pairs ++ []) ≡ length pairs = append_none pairs in let r : length listed + length pairs ≤ bound.most = room in omega arith);
           unfailed = λ is. refl;
           others = λ other e. of_other other scanned pairs (its_prefix own) e;
           found = refl;
+          paged = refl;
           at_office = refl;
           at_nodes = refl;
           unended = λ is. absurd (false≢true is);
         }
 
         -- a page, and the rest of the run
-        module _ (next : List ℕ) (goes : next_after (record { after = begins; listed = pairs }) ≡ Some next) (run : Scanned) (rest : Run most by who prefix next (listed ++ pairs) line run) where
+        module _ (next : List ℕ) (goes : next_after (record { after = begins; listed = pairs }) ≡ Some next) (run : Scanned) (rest : Run bound by who prefix next (listed ++ pairs) line run) where
           more_pages : ends (Some next) (scan_pages who by prefix (entries by rest.made)) ≡ false → ends (Some after) (scan_pages who by prefix (entries by (here ∷ rest.made))) ≡ false
           more_pages not_ended =
               subst (λ (same : Bool). ends (Some after) ((if same then (if (same_incarnation who (incarnation node inc) && bytes_eq prefix scanned) && eqb limit page_limit then record { after = begins; listed = pairs } ∷ [] else []) else []) ++ scan_pages who by prefix (entries by rest.made)) ≡ false) (sym (line_same by))
@@ -159,18 +165,19 @@ module _ (most : ℕ) (by : By) (who : Incarnation) (prefix : List ℕ) where
               (subst (λ (o : Option (List ℕ)). (bytes_eq begins after && ends o (scan_pages who by prefix (entries by rest.made))) ≡ false) (sym goes)
               (and_right (bytes_eq begins after) _ not_ended)))
 
-          goes_on : Run most by who prefix after listed (here ∷ line) run
+          goes_on : Run bound by who prefix after listed (here ∷ line) run
           goes_on = record {
             made = here ∷ rest.made;
             splits = ap (λ (l : List Turn). here ∷ l) rest.splits;
-            fair = λ is. (ap (λ (ns : List (List ℕ)). ns ++ damaged by rest.made) (no_damage pairs (and_parts (leb (length listed + length pairs) most) (list_all has_reading pairs) good).1) ∙ rest.fair is);
+            fair = λ judges is. page_fair judges (damaged by rest.made) ∙ rest.fair judges is;
             few = λ is. (let e : length ((if bytes_eq prefix scanned then pairs else []) ++ names by prefix rest.made) ≡ length (pairs ++ names by prefix rest.made) = ap length (page_names (names by prefix rest.made)) in
-                let r : length (listed ++ pairs) + length (names by prefix rest.made) ≤ most = rest.few is in
+                let r : length (listed ++ pairs) + length (names by prefix rest.made) ≤ bound.most = rest.few is in
                 let n : length (pairs ++ names by prefix rest.made) ≡ length pairs + length (names by prefix rest.made) = length-append pairs (names by prefix rest.made) in
                 let m : length (listed ++ pairs) ≡ length listed + length pairs = length-append listed pairs in omega arith);
             unfailed = rest.unfailed;
             others = λ other e. (other_more other e);
             found = rest.found;
+            paged = rest.paged;
             at_office = rest.at_office;
             at_nodes = rest.at_nodes;
             unended = λ is. more_pages (rest.unended is);
@@ -181,34 +188,35 @@ module _ (most : ℕ) (by : By) (who : Incarnation) (prefix : List ℕ) where
                   subst (λ (b : Bool). (if b then pairs else []) ++ names by other rest.made ≡ []) (sym (ap (λ (p : List ℕ). bytes_eq other p) (sym (its_prefix own)) ∙ e)) (rest.others other e)
 
   page_run : (after : List ℕ) (listed : List Pair) (place node inc : ℕ) (scanned begins : List ℕ) (limit : ℕ) (pairs : List Pair) (line : List Turn) (go_on : List ℕ → Scanned)
-      → ((next : List ℕ) → length (listed ++ pairs) ≤ most → Run most by who prefix next (listed ++ pairs) line (go_on next))
-      → (own : Bool) → is_next after listed place node inc scanned begins limit line ≡ own → (good : Bool) → (leb (length listed + length pairs) most && list_all has_reading pairs) ≡ good → (next : Option (List ℕ)) → next_after (record { after = begins; listed = pairs }) ≡ next
-      → Run most by who prefix after listed (AtDoor place (Call node inc (Scan scanned begins limit) (Page pairs)) ∷ line)
+      → ((next : List ℕ) → length (listed ++ pairs) ≤ bound.most → Run bound by who prefix next (listed ++ pairs) line (go_on next))
+      → (own : Bool) → is_next after listed place node inc scanned begins limit line ≡ own → (good : Bool) → (leb (length listed + length pairs) bound.most && (not bound.judges || list_all has_reading pairs)) ≡ good → (next : Option (List ℕ)) → next_after (record { after = begins; listed = pairs }) ≡ next
+      → Run bound by who prefix after listed (AtDoor place (Call node inc (Scan scanned begins limit) (Page pairs)) ∷ line)
       (if own then (if not good then stopped_at (listed ++ pairs) line else behind_good_page (listed ++ pairs) next go_on line) else stopped_at listed (AtDoor place (Call node inc (Scan scanned begins limit) (Page pairs)) ∷ line))
   page_run after listed place node inc scanned begins limit pairs line go_on rest false e good g next n = stops_here after listed _
   page_run after listed place node inc scanned begins limit pairs line go_on rest true e false g next n = stopped after listed place node inc scanned begins limit line pairs e
   page_run after listed place node inc scanned begins limit pairs line go_on rest true e true g None n = ended after listed place node inc scanned begins limit line pairs e g
   page_run after listed place node inc scanned begins limit pairs line go_on rest true e true g (Some next) n =
-      goes_on after listed place node inc scanned begins limit line pairs e g next n (go_on next) (rest next (let r : length listed + length pairs ≤ most = leb-true (length listed + length pairs) most (and_parts (leb (length listed + length pairs) most) (list_all has_reading pairs) g).0 in omega (arith, length-append listed pairs)))
+      goes_on after listed place node inc scanned begins limit line pairs e g next n (go_on next) (rest next (let r : length listed + length pairs ≤ bound.most = leb-true (length listed + length pairs) bound.most (and_parts (leb (length listed + length pairs) bound.most) (not bound.judges || list_all has_reading pairs) g).0 in omega (arith, length-append listed pairs)))
 
   -- a call without a page
-  call_run : (after : List ℕ) (listed : List Pair) (place node inc : ℕ) (scanned begins : List ℕ) (limit : ℕ) (answer : KeeperAnswer) (line : List Turn) (own : Bool) → Run most by who prefix after listed (AtDoor place (Call node inc (Scan scanned begins limit) answer) ∷ line) (stopped_at listed line) → Run most by who prefix after listed (AtDoor place (Call node inc (Scan scanned begins limit) answer) ∷ line) (if own then stopped_at listed line else stopped_at listed (AtDoor place (Call node inc (Scan scanned begins limit) answer) ∷ line))
+  call_run : (after : List ℕ) (listed : List Pair) (place node inc : ℕ) (scanned begins : List ℕ) (limit : ℕ) (answer : KeeperAnswer) (line : List Turn) (own : Bool) → Run bound by who prefix after listed (AtDoor place (Call node inc (Scan scanned begins limit) answer) ∷ line) (stopped_at listed line) → Run bound by who prefix after listed (AtDoor place (Call node inc (Scan scanned begins limit) answer) ∷ line) (if own then stopped_at listed line else stopped_at listed (AtDoor place (Call node inc (Scan scanned begins limit) answer) ∷ line))
   call_run after listed place node inc scanned begins limit answer line true run = run
   call_run after listed place node inc scanned begins limit answer line false run = stops_here after listed _
 
-  pub run_of : (after : List ℕ) (listed : List Pair) (line : List Turn) → length listed ≤ most → Run most by who prefix after listed line (scanned_from (judging most) who prefix after listed line)
+  pub run_of : (after : List ℕ) (listed : List Pair) (line : List Turn) → length listed ≤ bound.most → Run bound by who prefix after listed line (scanned_from bound who prefix after listed line)
   run_of after listed (AtDoor place (Call node inc (Scan scanned begins limit) (Page pairs)) ∷ line) within =
-      page_run after listed place node inc scanned begins limit pairs line (λ next. scanned_from (judging most) who prefix next (listed ++ pairs) line) (λ next more. run_of next (listed ++ pairs) line more)
-      (is_next after listed place node inc scanned begins limit line) refl (leb (length listed + length pairs) most && list_all has_reading pairs) refl (next_after (record { after = after; listed = pairs })) refl
+      page_run after listed place node inc scanned begins limit pairs line (λ next. scanned_from bound who prefix next (listed ++ pairs) line) (λ next more. run_of next (listed ++ pairs) line more)
+      (is_next after listed place node inc scanned begins limit line) refl (leb (length listed + length pairs) bound.most && (not bound.judges || list_all has_reading pairs)) refl (next_after (record { after = after; listed = pairs })) refl
   run_of after listed (AtDoor place (Call node inc (Scan scanned begins limit) answer) ∷ line) within =
       call_run after listed place node inc scanned begins limit answer line (is_next after listed place node inc scanned begins limit line) (record {
         made = AtDoor place (Call node inc (Scan scanned begins limit) answer) ∷ [];
         splits = refl;
-        fair = λ is. refl;
+        fair = λ judges is. refl;
         few = λ is. omega arith;
         unfailed = λ is. absurd (false≢true is);
         others = λ other e. refl;
         found = refl;
+        paged = refl;
         at_office = refl;
         at_nodes = refl;
         unended = λ is. shown (same_line by by);
@@ -240,7 +248,7 @@ many_false : (records markers : List Pair) → length records ≤ 20000 → mark
 many_false records markers few none =
     or_from _ _ (le-ltb 20000 (length records) few) (ap (λ (ps : List Pair). nat_lt 20000 (length ps)) none)
 
-module _ (by : By) (who : Incarnation) (line : List Turn) (run : Scanned) (its : Run 20000 by who records_prefix [] [] line run) (none : entries by run.behind ≡ []) where
+module _ (by : By) (who : Incarnation) (line : List Turn) (run : Scanned) (its : Run names_limit by who records_prefix [] [] line run) (none : entries by run.behind ≡ []) where
   same : entries by line ≡ entries by its.made
   same = entries_same by line its.made run.behind its.splits none
 
@@ -249,7 +257,7 @@ module _ (by : By) (who : Incarnation) (line : List Turn) (run : Scanned) (its :
 
   pub records_fair : Fair (fails by line) run.is_whole (many by line) (damaged by line)
   records_fair = record {
-    unspoiled = λ is. ap (λ (es : List DoorEntry). flat_map (damage_in None) es) same ∙ its.fair (so_made is);
+    unspoiled = λ is. ap (λ (es : List DoorEntry). flat_map (damage_in None) es) same ∙ its.fair refl (so_made is);
     few = λ is. many_false (names by records_prefix line) (names by markers_prefix line)
         (subst (λ (es : List DoorEntry). length (flat_map (λ (entry : DoorEntry). listed_in records_prefix entry.act) es) ≤ 20000) (sym same) (let few : 0 + length (names by records_prefix its.made) ≤ 20000 = its.few (so_made is) in omega arith))
         (ap (λ (es : List DoorEntry). flat_map (λ (entry : DoorEntry). listed_in markers_prefix entry.act) es) same ∙ its.others markers_prefix refl);

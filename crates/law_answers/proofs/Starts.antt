@@ -139,7 +139,7 @@ record Shown (by : By) (who : Incarnation) (line : List Turn) : Type 0 where
 
 scan_shown : (by : By) (ends : Ends) (who : Incarnation) (line : List Turn) → IsTrue (scan_course ends who (scanned names_limit who records_prefix line)) → Shown by who line
 scan_shown by ends who line follows =
-    let its = run_of 20000 by who records_prefix [] [] line (omega arith) in
+    let its = run_of names_limit by who records_prefix [] [] line (omega arith) in
     let none = quiet by who.node (closes ends who.inc (ends_boot who.inc (scanned names_limit who records_prefix line).is_whole)) (scanned names_limit who records_prefix line).behind follows in
     let all = records_fair by who line (scanned names_limit who records_prefix line) its none in
     record {

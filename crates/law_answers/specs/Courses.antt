@@ -1,8 +1,7 @@
 -- Lines that keep their course, by their view, and what a legal trace says of their turns beside it.
-use Rattle.std.specs.Prelude.{Bool, List, None, Option, [], false, not, true, ℕ, ◌||◌, ◌∷◌}
+use Rattle.std.specs.Prelude.{Bool, List, None, Option, [], not, true, ℕ, ◌||◌, ◌∷◌}
 use Rattle.std.specs.List.{list_all}
 use Rattle.aft_model.specs.declared.reply.Reply.{Reply}
-use Rattle.aft_model.specs.declared.script.Command.{Command}
 use Rattle.aft_model.specs.LegalNode.{is_legal_node, may_follow_at}
 use Rattle.aft_model.specs.Office.{may_be_next}
 use Rattle.aft_lines.specs.CausesAttempts.{speaks_of_attempt}
@@ -11,7 +10,6 @@ use Rattle.aft_lines.specs.LineCourse.{keeps_course}
 use Rattle.aft_lines.specs.LineView.{LineView, ends_of}
 use Rattle.aft_lines.specs.Lines.{node_numbers}
 use Rattle.aft_lines.specs.Turns.{AtDoor, AtNode, AtOffice, Turn, answer_in}
-use Rattle.aft_model.specs.declared.script.Command.TheVariants as commands
 
 -- whether a line, as it ran, kept the course of its command
 abbrev pub keeps_its_course : LineView → Bool
@@ -64,21 +62,3 @@ abbrev pub last_answer : List Turn → Option Reply
 last_answer [] = None
 last_answer (turn ∷ []) = answer_in turn
 last_answer (turn ∷ next ∷ line) = last_answer (next ∷ line)
-
--- the commands of which it is proved that their lines leave out nothing: begin, put, get, commit, abort, crash, start, announce, deliver, local, manager, collect, forget and backup
-abbrev pub is_settled : Command → Bool
-is_settled (commands.Begin uuid node) = true
-is_settled (commands.Put key value) = true
-is_settled (commands.Get key) = true
-is_settled commands.Commit = true
-is_settled commands.Abort = true
-is_settled (commands.Crash node) = true
-is_settled (commands.Start node) = true
-is_settled (commands.Announce node) = true
-is_settled (commands.Deliver node) = true
-is_settled (commands.Local node) = true
-is_settled commands.Manager = true
-is_settled commands.Collect = true
-is_settled (commands.Forget uuid node) = true
-is_settled commands.Backup = true
-is_settled command = false

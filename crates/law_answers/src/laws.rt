@@ -3,7 +3,7 @@
 ghost use Rattle.std.specs.Prelude.{◌≡◌, ℕ, IsTrue, List, Some};
 ghost use Rattle.std.specs.List.{Contains};
 ghost use Rattle.aft_model.specs.declared.reply.Reply.{Reply};
-ghost use Rattle.aft_model.specs.declared.script.Command.TheVariants.{Abort, Announce, Backup, Begin, Collect, Commit, Crash, Deliver, Forget, Get, Local, Manager, Put, Start};
+ghost use Rattle.aft_model.specs.declared.script.Command.TheVariants.{Abort, Announce, Backup, Begin, Collect, Commit, Crash, Deliver, Forget, Get, Local, Manager, Orphans, Put, Start};
 ghost use Rattle.aft_model.specs.declared.script.Line.{Line};
 ghost use Rattle.aft_lines.specs.Asked.{Asked, Ran};
 ghost use Rattle.aft_lines.specs.Causes.{Caused, ExactlyCaused};
@@ -11,8 +11,8 @@ ghost use Rattle.aft_lines.specs.FinishedText.{answers_of, line_of};
 ghost use Rattle.aft_lines.specs.LegalTrace.{LegalTrace};
 ghost use Rattle.aft_lines.specs.LineView.{LineView};
 ghost use Rattle.aft_lines.specs.Lines.{lines};
-ghost use Rattle.aft_lines.specs.Views.{view_of};
-ghost use Rattle.law_answers.specs.Courses.{carries_its_words, comes_behind_legal, is_settled, keeps_its_course, keeps_rules, last_answer, reads_its_clock, speaks_of_its_attempt, stands_at_its_node};
+ghost use Rattle.aft_lines.specs.Views.{LeavesOutNothing, view_of};
+ghost use Rattle.law_answers.specs.Courses.{carries_its_words, comes_behind_legal, keeps_its_course, keeps_rules, last_answer, reads_its_clock, speaks_of_its_attempt, stands_at_its_node};
 
 /// Where a put keeps its course, each reply whose cause it has leaves out no other.
 pub fn puts_leave_out_nothing()
@@ -91,8 +91,18 @@ pub fn collects_leave_out_nothing()
     ensures { (view : LineView) (reply : Reply) → view.command ≡ Collect → IsTrue (keeps_its_course view) → IsTrue (keeps_rules view) → Caused view reply → ExactlyCaused view reply }
 {}
 
-/// In a legal trace no reply to a line of these commands leaves out another that comes exactly where its cause is: begin, put, get,
-/// commit, abort, crash, start, announce, deliver, local, manager, collect, forget, backup.
+/// Where a round of orphans keeps its course, each reply whose cause it has leaves out no other: in whatever way its turns may be those
+/// for the versions that it found, they tell the same counts.
+pub fn orphans_leave_out_nothing()
+    ensures { (key : List ℕ) (view : LineView) (reply : Reply) → view.command ≡ Orphans key → IsTrue (keeps_its_course view) → Caused view reply → ExactlyCaused view reply }
+{}
+
+/// In a legal trace no answer to a line leaves out another reply that comes exactly where its cause is.
 pub fn legal_lines_leave_out_nothing()
-    ensures { (asked : Asked) (ran : Ran) (line : Line) (reply : Reply) → LegalTrace asked ran → Contains (lines asked) line → IsTrue (is_settled line.order) → Contains (answers_of (line_of line) ran) reply → ExactlyCaused (view_of asked ran line) reply }
+    ensures { (asked : Asked) (ran : Ran) (line : Line) (reply : Reply) → LegalTrace asked ran → Contains (lines asked) line → Contains (answers_of (line_of line) ran) reply → ExactlyCaused (view_of asked ran line) reply }
+{}
+
+/// So a legal trace leaves out nothing.
+pub fn legal_traces_leave_out_nothing()
+    ensures { (asked : Asked) (ran : Ran) → LegalTrace asked ran → LeavesOutNothing asked ran }
 {}
