@@ -55,7 +55,7 @@ module _ (history : List DoorEntry) (entry : DoorEntry) (comes : Comes history e
 
 -- ---- what was shown before the door was opened
 
-before_first-cons : {A : Type 0} (p : A → Bool) (x : A) (xs : List A) → before_first p (x ∷ xs) ≡ (if p x then [] else x ∷ before_first p xs)
+pub before_first-cons : {A : Type 0} (p : A → Bool) (x : A) (xs : List A) → before_first p (x ∷ xs) ≡ (if p x then [] else x ∷ before_first p xs)
 before_first-cons {A} p x xs = by_test (p x)
   where
     one_more : (n : ℕ) → take (1 + n) (x ∷ xs) ≡ x ∷ take n xs

@@ -1,7 +1,7 @@
 -- Where the door has just been opened: nothing was written, and what a name holds is what was shown of it, sound as it is together.
-use Rattle.std.proofs.Common.{◌≡◌, ℕ, Bool, true, false, ◌&&◌, not, List, [], ◌∷◌, ◌++◌, refl, sym, ap, subst, ◌∙◌, inl, inr, take, cond, suc, ◌+◌, arith}
+use Rattle.std.proofs.Common.{◌≡◌, ℕ, Bool, true, false, ◌&&◌, not, List, [], ◌∷◌, ◌++◌, refl, sym, ap, subst, ◌∙◌, inl, inr}
 use Rattle.std.specs.Prelude.{IsTrue, IsFalse, Option, Some, if◌then◌else◌, map, filter}
-use Rattle.std.specs.List.{before_first, flat_map, list_all, list_any, position_or_len}
+use Rattle.std.specs.List.{before_first, flat_map, list_all, list_any}
 use Rattle.std.proofs.lemmas.Bool.{and_parts, or_parts, false≢true, false_from_ne_true}
 use Rattle.aft_keeper.specs.declared.keeper.Pair.{Pair}
 use Rattle.aft_keeper.specs.Contents.{is_scanned}
@@ -33,17 +33,8 @@ use Rattle.law_kept.proofs.Fates.{under}
 use Rattle.law_kept.proofs.Gone.{flat_map_in}
 use Rattle.law_kept.proofs.Quiet.{nothing_new}
 use Rattle.law_kept.proofs.Shown.{Seen, ShownIn, Sight, Unseen, held_as_shown, reads_alone, sight_of}
+use Rattle.law_kept.proofs.Steps.{before_first-cons}
 use Rattle.law_opened.proofs.Acts.{answered_each, none_of_none, page_shows, proven_effect, quiet_stored, shown_bytes, sight_quiet}
-
-before_first-cons : {A : Type 0} (p : A → Bool) (x : A) (xs : List A) → before_first p (x ∷ xs) ≡ (if p x then [] else x ∷ before_first p xs)
-before_first-cons {A} p x xs = by_test (p x)
-  where
-    one_more : (n : ℕ) → take (1 + n) (x ∷ xs) ≡ x ∷ take n xs
-    one_more n = ap (λ k. take k (x ∷ xs)) (let e : 1 + n ≡ suc n = omega arith in e)
-
-    by_test : (t : Bool) → take (cond (not t) (1 + position_or_len p xs) 0) (x ∷ xs) ≡ (if t then [] else x ∷ before_first p xs)
-    by_test true = refl
-    by_test false = one_more (position_or_len p xs)
 
 -- what comes before the first that passes, where the last alone does
 first_last : {A : Type 0} (test : A → Bool) (xs : List A) (x : A) → IsFalse (list_any test xs) → IsTrue (test x) → before_first test (xs ++ x ∷ []) ≡ xs
