@@ -1,8 +1,8 @@
 -- What a legal trace says of each of its lines: it keeps its course, its turns keep the rules, stand at its node, carry its words and speak of its attempt, and each answer has its cause.
-use Rattle.std.proofs.Common.{◌≡◌, ◌++◌, ℕ, Bool, true, false, ◌&&◌, List, [], ◌∷◌, refl, sym, subst, ◌∙◌, append_assoc, append-nil}
+use Rattle.std.proofs.Common.{◌≡◌, ◌++◌, ℕ, Bool, true, false, eqb, ◌&&◌, ◌||◌, not, List, [], ◌∷◌, length, refl, sym, subst, ◌∙◌, arith, append_assoc, append-nil}
 use Rattle.std.specs.Prelude.{IsTrue, Option, if◌then◌else◌, suc}
 use Rattle.std.specs.List.{Contains, fold, list_all}
-use Rattle.std.proofs.lemmas.Bool.{and_from, and_parts}
+use Rattle.std.proofs.lemmas.Bool.{and_from, and_parts, false≢true}
 use Rattle.std.proofs.lemmas.List.Elements.{All-contains, All-contains_itself, All-weaker}
 use Rattle.std.proofs.lemmas.List.Folds.{list_all-append}
 use Rattle.std.proofs.lemmas.List.Sums.{AllPass-from_list_all, list_all-from_AllPass}
@@ -20,7 +20,7 @@ use Rattle.aft_model.specs.NodeSights.{is_seen_node}
 use Rattle.aft_model.specs.Office.{is_legal_alone, is_legal_beside, may_be_next}
 use Rattle.aft_model.specs.ScanRun.{same_line}
 use Rattle.aft_lines.specs.Asked.{Asked, Ran}
-use Rattle.aft_lines.specs.Causes.{ExactlyCaused, cause, may_leave_out}
+use Rattle.aft_lines.specs.Causes.{ExactlyCaused, cause, comes_exactly, may_leave_out, same_but_holders, yields_to}
 use Rattle.aft_lines.specs.FinishedText.{answers_of, line_of}
 use Rattle.aft_lines.specs.LegalTrace.{LegalTrace, act_at, are_legal_nodes}
 use Rattle.aft_lines.specs.LineCourse.{answers_last}
@@ -227,3 +227,20 @@ pub legal_leaves_nothing : (asked : Asked) (ran : Ran) → LegalTrace asked ran 
 legal_leaves_nothing asked ran legal other =
     all_pass (λ (line : Line). list_all (λ (reply : Reply). may_leave_out (view_of asked ran line) reply other) (answers_of (line_of line) ran)) (lines asked)
     (λ line asks. all_pass (λ (reply : Reply). may_leave_out (view_of asked ran line) reply other) (answers_of (line_of line) ran) (λ reply answers. legal_exact asked ran line reply legal asks answers other))
+
+-- a list of one has one
+one_there : {A : Type 0} (xs : List A) → IsTrue (eqb (length xs) 1) → (x : A) × Contains xs x
+one_there [] is = absurd (false≢true is)
+one_there (x ∷ xs) is = (x, (0, omega arith, refl))
+
+-- what may be left out, and comes exactly where its cause is, is left out rightly where it is the reply, or yields to it
+left_so : (exact caused same yields : Bool) → IsTrue exact → IsTrue caused → IsTrue ((not (exact && caused) || same) || yields) → IsTrue (same || yields)
+left_so true true same yields is its left = left
+left_so true false same yields is its left = absurd (false≢true its)
+left_so false caused same yields is its left = absurd (false≢true is)
+
+pub caused_answered : (asked : Asked) (ran : Ran) (line : Line) (other : Reply) → LegalTrace asked ran → Contains (lines asked) line → IsTrue (comes_exactly other) → IsTrue (cause (view_of asked ran line) other)
+    → (reply : Reply) × Contains (answers_of (line_of line) ran) reply × IsTrue (same_but_holders reply other || yields_to reply)
+caused_answered asked ran line other legal asks exact caused =
+    let its = one_there (answers_of (line_of line) ran) (passes (λ (l : Line). eqb (length (answers_of (line_of l) ran)) 1) (lines asked) line legal.answers asks) in
+    (its.0, its.1, left_so (comes_exactly other) (cause (view_of asked ran line) other) (same_but_holders its.0 other) (yields_to its.0) exact caused (legal_exact asked ran line its.0 legal asks its.1 other))

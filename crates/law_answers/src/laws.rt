@@ -1,12 +1,12 @@
 //! Laws of answers, as calls that do nothing and promise them.
 
-ghost use Rattle.std.specs.Prelude.{◌≡◌, ℕ, IsTrue, List, Some};
+ghost use Rattle.std.specs.Prelude.{◌≡◌, ◌||◌, ℕ, IsTrue, List, Some};
 ghost use Rattle.std.specs.List.{Contains};
 ghost use Rattle.aft_model.specs.declared.reply.Reply.{Reply};
 ghost use Rattle.aft_model.specs.declared.script.Command.TheVariants.{Abort, Announce, Backup, Begin, Collect, Commit, Crash, Deliver, Forget, Get, Local, Manager, Orphans, Put, Start};
 ghost use Rattle.aft_model.specs.declared.script.Line.{Line};
 ghost use Rattle.aft_lines.specs.Asked.{Asked, Ran};
-ghost use Rattle.aft_lines.specs.Causes.{Caused, ExactlyCaused};
+ghost use Rattle.aft_lines.specs.Causes.{Caused, ExactlyCaused, comes_exactly, same_but_holders, yields_to};
 ghost use Rattle.aft_lines.specs.FinishedText.{answers_of, line_of};
 ghost use Rattle.aft_lines.specs.LegalTrace.{LegalTrace};
 ghost use Rattle.aft_lines.specs.LineView.{LineView};
@@ -105,4 +105,10 @@ pub fn legal_lines_leave_out_nothing()
 /// So a legal trace leaves out nothing.
 pub fn legal_traces_leave_out_nothing()
     ensures { (asked : Asked) (ran : Ran) → LegalTrace asked ran → LeavesOutNothing asked ran }
+{}
+
+/// In a legal trace a line that has the cause of a reply which comes exactly where that is answers it, of a collection's verdicts but for
+/// who holds, or a reply to which it yields: that the node is down, or that memory was wanting.
+pub fn caused_replies_are_answered()
+    ensures { (asked : Asked) (ran : Ran) (line : Line) (other : Reply) → LegalTrace asked ran → Contains (lines asked) line → IsTrue (comes_exactly other) → Caused (view_of asked ran line) other → (reply : Reply) × Contains (answers_of (line_of line) ran) reply × IsTrue (same_but_holders reply other || yields_to reply) }
 {}
