@@ -34,20 +34,20 @@ use Rattle.law_claims.proofs.Scenes.{by_itself, same_by}
 pub door-snoc : (made : List Made) (one : Made) → door_steps (made ++ one ∷ []) ≡ door_steps made ++ door_entry_in one.by one.turn
 door-snoc made one = flat_map-append (λ (m : Made). door_entry_in m.by m.turn) made (one ∷ []) ∙ ap (λ (l : List DoorEntry). door_steps made ++ l) (append-nil (door_entry_in one.by one.turn))
 
-node-snoc : (node : ℕ) (made : List Made) (one : Made) → node_steps node (made ++ one ∷ []) ≡ node_steps node made ++ node_entry_in node one.turn
+pub node-snoc : (node : ℕ) (made : List Made) (one : Made) → node_steps node (made ++ one ∷ []) ≡ node_steps node made ++ node_entry_in node one.turn
 node-snoc node made one = flat_map-append (λ (m : Made). node_entry_in node m.turn) made (one ∷ []) ∙ ap (λ (l : List NodeEntry). node_steps node made ++ l) (append-nil (node_entry_in node one.turn))
 
-own-snoc : (by : By) (made : List Made) (one : Made) → own_steps by (made ++ one ∷ []) ≡ own_steps by made ++ own_steps by (one ∷ [])
+pub own-snoc : (by : By) (made : List Made) (one : Made) → own_steps by (made ++ one ∷ []) ≡ own_steps by made ++ own_steps by (one ∷ [])
 own-snoc by made one =
     ap (map (λ (m : Made). m.turn)) (filter-append (λ (m : Made). same_line by m.by) made (one ∷ []))
     ∙ map-append (λ (m : Made). m.turn) (filter (λ (m : Made). same_line by m.by) made) (filter (λ (m : Made). same_line by m.by) (one ∷ []))
 
-own_other : (by : By) (made : List Made) (one : Made) → same_line by one.by ≡ false → own_steps by (made ++ one ∷ []) ≡ own_steps by made
+pub own_other : (by : By) (made : List Made) (one : Made) → same_line by one.by ≡ false → own_steps by (made ++ one ∷ []) ≡ own_steps by made
 own_other by made one other =
     own-snoc by made one
     ∙ (ap (λ (b : Bool). own_steps by made ++ map (λ (m : Made). m.turn) (if b then one ∷ [] else [])) other ∙ append-nil (own_steps by made))
 
-own_same : (made : List Made) (one : Made) → own_steps one.by (made ++ one ∷ []) ≡ own_steps one.by made ++ one.turn ∷ []
+pub own_same : (made : List Made) (one : Made) → own_steps one.by (made ++ one ∷ []) ≡ own_steps one.by made ++ one.turn ∷ []
 own_same made one = own-snoc one.by made one ∙ ap (λ (b : Bool). own_steps one.by made ++ map (λ (m : Made). m.turn) (if b then one ∷ [] else [])) (by_itself one.by)
 
 -- ---- where its line comes to
@@ -60,14 +60,14 @@ moved_on command nodes ends line turn next leads = cases (leads_to command nodes
     cases None is = absurd (let nothing : None ≡ Some next = is in cc)
     cases (Some position) is = is
 
-at_mover : (asking : Asking) (by : By) (line : List Turn) (command : Command) → asking.command by ≡ Some command → IsTrue (is_of_attempt command) → come_to asking.nodes (asking.ends by) line (asking.command by) ≡ or_not_begun (leads_to command asking.nodes (asking.ends by) line)
+pub at_mover : (asking : Asking) (by : By) (line : List Turn) (command : Command) → asking.command by ≡ Some command → IsTrue (is_of_attempt command) → come_to asking.nodes (asking.ends by) line (asking.command by) ≡ or_not_begun (leads_to command asking.nodes (asking.ends by) line)
 at_mover asking by line command is of =
     ap (come_to asking.nodes (asking.ends by) line) is ∙ ap (λ (b : Bool). if b then or_not_begun (leads_to command asking.nodes (asking.ends by) line) else NotBegun) of
 
-at_bystander : (asking : Asking) (by : By) (line : List Turn) (command : Command) → asking.command by ≡ Some command → is_of_attempt command ≡ false → attempt_at (come_to asking.nodes (asking.ends by) line (asking.command by)) ≡ None
+pub at_bystander : (asking : Asking) (by : By) (line : List Turn) (command : Command) → asking.command by ≡ Some command → is_of_attempt command ≡ false → attempt_at (come_to asking.nodes (asking.ends by) line (asking.command by)) ≡ None
 at_bystander asking by line command is other = ap attempt_at (ap (come_to asking.nodes (asking.ends by) line) is ∙ ap (λ (b : Bool). if b then or_not_begun (leads_to command asking.nodes (asking.ends by) line) else NotBegun) other)
 
-at_nobody : (asking : Asking) (by : By) (line : List Turn) → asking.command by ≡ None → attempt_at (come_to asking.nodes (asking.ends by) line (asking.command by)) ≡ None
+pub at_nobody : (asking : Asking) (by : By) (line : List Turn) → asking.command by ≡ None → attempt_at (come_to asking.nodes (asking.ends by) line (asking.command by)) ≡ None
 at_nobody asking by line is = ap attempt_at (ap (come_to asking.nodes (asking.ends by) line) is)
 
 module _ (asking : Asking) (capacity : ℕ) (made : List Made) (one : Made) where
@@ -141,7 +141,7 @@ module _ (asking : Asking) (capacity : ℕ) (made : List Made) (both : Both aski
     elsewhere_same : (other : ℕ) → IsFalse (eqb node other) → node_steps other (made ++ at_node ∷ []) ≡ node_steps other made
     elsewhere_same other differs = node-snoc other made at_node ∙ (ap (λ (b : Bool). node_steps other made ++ (if b then entry ∷ [] else [])) differs ∙ append-nil (node_steps other made))
 
-    node_step : NodeStep node entry was behind_node
+    pub node_step : NodeStep node entry was behind_node
     node_step = record { door = door-snoc made at_node ∙ append-nil (door_steps made); here = here_now; elsewhere = elsewhere_same; others = others_stay asking capacity made at_node }
 
     module _ (comes : Comes asking capacity made entry.by (AtNode node history entry)) where
@@ -179,7 +179,7 @@ steps_keep asking capacity made [] rest may both = subst (Both asking capacity) 
 steps_keep asking capacity made (one ∷ more) rest may both =
     subst (Both asking capacity) (append_assoc made (one ∷ []) more) (steps_keep asking capacity (made ++ one ∷ []) more rest may.2 (step_keeps asking capacity made both one.by one.turn may.0 may.1))
 
-at_first : (asking : Asking) (by : By) (command : Option Command) → attempt_at (come_to asking.nodes (asking.ends by) [] command) ≡ None
+pub at_first : (asking : Asking) (by : By) (command : Option Command) → attempt_at (come_to asking.nodes (asking.ends by) [] command) ≡ None
 at_first asking by None = refl
 at_first asking by (Some command) = cases (is_of_attempt command)
   where

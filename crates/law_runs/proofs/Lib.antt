@@ -1,10 +1,10 @@
-mod Members
-mod Reading
-mod Opening
-mod Nodes
-mod Walks
-mod Own
-mod Come
-mod InStages
-mod Retires
-mod LegalRuns
+pub mod Members
+pub mod Reading
+pub mod Opening
+pub mod Nodes
+pub mod Walks
+pub mod Own
+pub mod Come
+pub mod InStages
+pub mod Retires
+pub mod LegalRuns

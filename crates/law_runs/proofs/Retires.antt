@@ -68,7 +68,7 @@ use Rattle.aft_records.specs.declared.stored.Marker.TheVariants as markers
 
 -- ---- lists
 
-split_at : {A : Type 0} (x : A) (xs : List A) → In x xs → (before : List A) × (rest : List A) × (xs ≡ before ++ x ∷ rest)
+pub split_at : {A : Type 0} (x : A) (xs : List A) → In x xs → (before : List A) × (rest : List A) × (xs ≡ before ++ x ∷ rest)
 split_at x [] none = absurd none
 split_at {A} x (y ∷ xs) (inl is) = ([], xs, ap (λ (z : A). z ∷ xs) (sym is))
 split_at {A} x (y ∷ xs) (inr later) = (let r = split_at x xs later in (y ∷ r.0, r.1, ap (λ (l : List A). y ∷ l) r.2))
@@ -87,13 +87,13 @@ take_whole : {A : Type 0} (f : ℕ) (h more : List A) → f ≤ length h → tak
 take_whole f h more le = ap (take f) (sym (take_at h more (length h) refl)) ∙ take-take f (length h) (h ++ more) le
 
 -- a rule that each entry of a history passes behind those before it
-each_from : {A : Type 0} (rule : List A → A → Bool) (all before xs : List A) → all ≡ before ++ xs → ((h : List A) (x : A) (more : List A) → all ≡ h ++ x ∷ more → IsTrue (rule h x)) → IsTrue (each_after rule before xs)
+pub each_from : {A : Type 0} (rule : List A → A → Bool) (all before xs : List A) → all ≡ before ++ xs → ((h : List A) (x : A) (more : List A) → all ≡ h ++ x ∷ more → IsTrue (rule h x)) → IsTrue (each_after rule before xs)
 each_from rule all before [] is each = refl
 each_from rule all before (x ∷ xs) is each = and_from (rule before x) (each_after rule (before ++ x ∷ []) xs) (each before x xs is) (each_from rule all (before ++ x ∷ []) xs (is ∙ sym (append_assoc before (x ∷ []) xs)) each)
 
 -- ---- entries of a node
 
-made_in : (number : ℕ) (test : List NodeEntry → NodeEntry → Bool) (pre h : List NodeEntry) → IsTrue (some_after test pre h) → (p : List NodeEntry) × (e : NodeEntry) × In (record { by = e.by; turn = AtNode number p e }) (made_at_node number pre h) × IsTrue (test p e)
+pub made_in : (number : ℕ) (test : List NodeEntry → NodeEntry → Bool) (pre h : List NodeEntry) → IsTrue (some_after test pre h) → (p : List NodeEntry) × (e : NodeEntry) × In (record { by = e.by; turn = AtNode number p e }) (made_at_node number pre h) × IsTrue (test p e)
 made_in number test pre [] is = absurd (false≢true is)
 made_in number test pre (entry ∷ h) is = elim (or_cases (test pre entry) (some_after test (pre ++ entry ∷ []) h) is) [
   | inl here ↦ (pre, entry, inl refl, here)
@@ -110,7 +110,7 @@ same_at h (suc k) node (x ∷ hs) among =
     ∙ (ap (λ n. history_in n (suc node) hs) (let e : suc node + k ≡ node + suc k = omega arith in e)
     ∙ sym (ap (λ (b : Bool). if b then x else history_in (node + suc k) (suc node) hs) (ne_eqb (node + suc k) node (λ is. (let z = is in omega arith)))))
 
-history_same : (h : List NodeEntry) (number : ℕ) (nodes : List (List NodeEntry)) → In h (history_at number nodes) → h ≡ history_in number 1 nodes
+pub history_same : (h : List NodeEntry) (number : ℕ) (nodes : List (List NodeEntry)) → In h (history_at number nodes) → h ≡ history_in number 1 nodes
 history_same h number nodes among = cases (eqb number 0) refl among
   where
     cases : (b : Bool) → eqb number 0 ≡ b → In h (if b then [] else take 1 (drop (number - 1) nodes)) → h ≡ history_in number 1 nodes
@@ -139,7 +139,7 @@ given_seen node seen by p (acts.GiveUp given) answer id is sight =
 given_seen node seen by p act answer id is sight = absurd (false≢true is)
 
 -- a give-up at the door is backed by one of its node
-backed : (nodes : List (List NodeEntry)) (by : By) (place : ℕ) (who : Incarnation) (id : TxnId) (act : DoorAct) → IsTrue (gives_up who id act) → IsTrue (is_backed_at nodes by place act) → IsTrue (list_any (some_after (backs_give_up by who.inc id place) []) (history_at who.node nodes))
+pub backed : (nodes : List (List NodeEntry)) (by : By) (place : ℕ) (who : Incarnation) (id : TxnId) (act : DoorAct) → IsTrue (gives_up who id act) → IsTrue (is_backed_at nodes by place act) → IsTrue (list_any (some_after (backs_give_up by who.inc id place) []) (history_at who.node nodes))
 backed nodes by place who id (doors.GiveUp node inc given) is back =
     let parts = and_parts (same_incarnation who (incarnation node inc)) (same_id id given) is in
     subst (λ (w : Incarnation). IsTrue (list_any (some_after (backs_give_up by w.inc id place) []) (history_at w.node nodes))) (sym (same_who who (incarnation node inc) parts.0))

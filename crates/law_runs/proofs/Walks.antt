@@ -180,7 +180,7 @@ moved_at (MustEnd b EndsAborted) a is = moved_so (MustEnd b EndsAborted) a is (I
 moved_at (MustEnd b (EndsLeft aborts)) a is = moved_so (MustEnd b (EndsLeft aborts)) a is IsLeaving [] refl refl
 moved_at position a is = none_moved position a is
 
-door_ahead : (command : Command) (nodes : List ℕ) (ends : Ends) (position next : Progress) (place : ℕ) (act : DoorAct) (a : Attempt) → IsTrue (is_of_attempt command) → attempt_at position ≡ Some a → advance command nodes ends position (AtDoor place act) ≡ Some next → attempt_at next ≡ Some a
+pub door_ahead : (command : Command) (nodes : List ℕ) (ends : Ends) (position next : Progress) (place : ℕ) (act : DoorAct) (a : Attempt) → IsTrue (is_of_attempt command) → attempt_at position ≡ Some a → advance command nodes ends position (AtDoor place act) ≡ Some next → attempt_at next ≡ Some a
 door_ahead command nodes ends position next place act a of is e =
     let now = moved_at position a is in
     the_is a (attempt_at next) (moves_it next a now.0 now.1 (attempts_stay command nodes now.1 ends position next place act a now.0 of now.2 e)).0
