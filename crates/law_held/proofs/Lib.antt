@@ -4,3 +4,8 @@ pub mod OwnSteps
 pub mod Claims
 pub mod Runs
 pub mod Held
+pub mod Fetches
+pub mod GetTurns
+pub mod GetLines
+pub mod Lines
+pub mod OpenFetches

@@ -2,12 +2,13 @@
 
 ghost use Rattle.std.specs.Prelude.{◌≡◌, ◌++◌, List, []};
 ghost use Rattle.aft_lines.specs.Asked.{Asked, Ran};
-ghost use Rattle.aft_lines.specs.Holding.{ClaimsHeld};
+ghost use Rattle.aft_lines.specs.Holding.{ClaimsHeld, FetchesStayOpen};
 ghost use Rattle.aft_lines.specs.LegalTrace.{LegalTrace};
 ghost use Rattle.aft_lines.specs.RunsSoFar.{RunsSoFar};
 ghost use Rattle.aft_lines.specs.Steps.{Made};
-ghost use Rattle.law_claims.specs.Moments.{scene_of};
+ghost use Rattle.law_claims.specs.Moments.{node_steps, scene_of};
 ghost use Rattle.law_runs.specs.Runs.{asking_of, run_steps};
+ghost use Rattle.law_held.specs.Fetching.{KeepsFetches, fetch_of};
 ghost use Rattle.law_held.specs.Owning.{Owns};
 
 /// At each moment of a run so far, and of a legal trace, the line that moves an attempt which commits or leaves owns it, and
@@ -22,4 +23,19 @@ pub fn runs_own()
 pub fn claims_are_held()
     ensures so_far { (asked : Asked) (ran : Ran) → RunsSoFar asked ran → ClaimsHeld ran.trace }
     ensures legal { (asked : Asked) (ran : Ran) → LegalTrace asked ran → ClaimsHeld ran.trace }
+{}
+
+/// At each moment of a run so far, and of a legal trace, an attempt has as many fetches that aren't over as lines that fetch
+/// for it; and while its node serves its incarnation, each line that is at a fetch is one of these, and its fetch stood open
+/// since it picked the version.
+pub fn runs_keep_fetches()
+    ensures so_far { (asked : Asked) (ran : Ran) (made rest : List Made) → RunsSoFar asked ran → run_steps ran ≡ made ++ rest → KeepsFetches (λ node. node_steps node made) (fetch_of (asking_of asked ran) made) }
+    ensures legal { (asked : Asked) (ran : Ran) (made rest : List Made) → LegalTrace asked ran → run_steps ran ≡ made ++ rest → KeepsFetches (λ node. node_steps node made) (fetch_of (asking_of asked ran) made) }
+{}
+
+/// So in a run so far, and in a legal trace, each fetch that ends stood open since its line picked the version: its attempt
+/// ran, and had read that.
+pub fn fetches_stay_open()
+    ensures so_far { (asked : Asked) (ran : Ran) → RunsSoFar asked ran → FetchesStayOpen ran.trace }
+    ensures legal { (asked : Asked) (ran : Ran) → LegalTrace asked ran → FetchesStayOpen ran.trace }
 {}

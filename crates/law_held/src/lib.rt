@@ -5,4 +5,4 @@
 
 mod laws;
 
-pub use laws::{claims_are_held, runs_own};
+pub use laws::{claims_are_held, fetches_stay_open, runs_keep_fetches, runs_own};

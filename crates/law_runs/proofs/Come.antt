@@ -78,7 +78,7 @@ named_line by (line ∷ some) = cases (same_line (line_of line) by) refl (named_
 
 -- ---- what a beginning of a line leads to
 
-leads_before : (command : Command) (nodes : List ℕ) (ends : Ends) (xs ys : List Turn) (p : Progress) → leads_to command nodes ends (xs ++ ys) ≡ Some p
+pub leads_before : (command : Command) (nodes : List ℕ) (ends : Ends) (xs ys : List Turn) (p : Progress) → leads_to command nodes ends (xs ++ ys) ≡ Some p
     → (q : Progress) × (leads_to command nodes ends xs ≡ Some q) × (fold (advanced (advance command nodes ends)) (Some q) ys ≡ Some p)
 leads_before command nodes ends xs ys p is = cases (leads_to command nodes ends xs) refl
   where
@@ -173,7 +173,7 @@ module _ (asked : Asked) (ran : Ran) (so : Goes asked ran) where
     -- ---- its line
 
     module _ (line : Line) (listed : In line (lines asked)) (its : line_of line ≡ one.by) where
-      turn_made : IsTrue (makes line.order one.turn)
+      pub turn_made : IsTrue (makes line.order one.turn)
       turn_made = all_at (makes line.order) one.turn (turns (line_of line) ran.trace) (subst (λ (b : By). In one.turn (turns b ran.trace)) (sym its) (in_turns one.by ran.trace one.turn (step_in ran.trace one among))) (makes_all asked ran so line listed)
 
       module _ (of : IsTrue (is_of_attempt line.order)) where

@@ -108,7 +108,7 @@ module _ (capacity : ℕ) where
 -- ---- one list at a moment
 
 -- turns of one moment that stand at the door or at one node stand in one list
-tied : (node : ℕ) (turn other : Turn) → IsTrue (stands_in node turn) → IsTrue (stands_in node other) → IsTrue (not (eqb (moment turn) (moment other)) || same_list turn other)
+pub tied : (node : ℕ) (turn other : Turn) → IsTrue (stands_in node turn) → IsTrue (stands_in node other) → IsTrue (not (eqb (moment turn) (moment other)) || same_list turn other)
 tied node (AtDoor place act) (AtDoor q act') is also = or_right (not (eqb (place + place + 1) (q + q + 1))) true refl
 tied node (AtDoor place act) (AtNode at history entry) is also = or_left (not (eqb (place + place + 1) (entry.front + entry.front))) false (ap not (ne_eqb (place + place + 1) (entry.front + entry.front) (λ e. odd place entry.front e)))
   where
@@ -140,7 +140,7 @@ gives_none command of (AtNode at history entry) made = by_act entry.act made
     by_act act is = refl
 
 -- where a line's turns at the office would stand at the door or a node, there are none
-office_none : (by : By) (node : ℕ) (before office : List OfficeEntry) → ((x : Turn) → In x (office_turns by before office) → IsTrue (stands_in node x)) → office_turns by before office ≡ []
+pub office_none : (by : By) (node : ℕ) (before office : List OfficeEntry) → ((x : Turn) → In x (office_turns by before office) → IsTrue (stands_in node x)) → office_turns by before office ≡ []
 office_none by node before [] each = refl
 office_none by node before (entry ∷ office) each =
     cases (λ each'. office_none by node (before ++ entry ∷ []) office each') (same_line by entry.by) each
