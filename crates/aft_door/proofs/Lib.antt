@@ -13,3 +13,4 @@ pub mod Timely
 pub mod Standing
 pub mod Along
 pub mod Seen
+pub mod StoredForms

@@ -102,44 +102,6 @@ stored who v h is unused =
     all : (xs : List DoorEntry) → IsTrue (has_stored (who_calls who) (record { id = v.id; keys = v.key ∷ [] }) (xs ++ called who (Put (version_name v.key v.id) (version_row v)) Done ∷ []))
     all xs = and_from _ _ (last_any (λ (x : DoorEntry). stores_version (who_calls who) v.key v.id x.act) xs (called who (Put (version_name v.key v.id) (version_row v)) Done) one) refl
 
--- ---- what was put and acknowledged
-
-same_keys : (keys : List (List ℕ)) → IsTrue (pointwise bytes_eq keys keys)
-same_keys [] = refl
-same_keys (key ∷ keys) = and_from _ _ (bytes_eq-refl key) (same_keys keys)
-
-is_one : (c : Commit) → IsTrue (is_among c (c ∷ []))
-is_one c = or_left _ _ (and_from _ _ (same_id-refl c.id) (same_keys c.keys))
-
-given_last : {A B : Type 0} (f : A → List B) (test : B → Bool) (xs : List A) (x : A) → IsTrue (list_any test (f x)) → IsTrue (list_any test (flat_map f (xs ++ x ∷ [])))
-given_last f test xs x passed = subst (λ l. IsTrue (list_any test l)) (sym (flat_map-append f xs (x ∷ []))) (any_later test (flat_map f xs) (f x ++ []) (any_grows test (f x) [] passed))
-  where
-    any_later : {B : Type 0} (test : B → Bool) (xs ys : List B) → IsTrue (list_any test ys) → IsTrue (list_any test (xs ++ ys))
-    any_later test [] ys passed = passed
-    any_later test (x ∷ xs) ys passed = or_right _ _ (any_later test xs ys passed)
-
--- a record by the first incarnation of node 1 that read nothing
-pub node_record : (c : Commit) → IsWritableCommit c → IsTime c.id.time → IsRecord (record { commit = c; origin = record { node = 1; inc = 1; reads = [] } })
-node_record c is timely = (
-  record {
-    commit = is;
-    origin = record {
-      limits = refl;
-      reads = record { few = omega arith; timely = λ k d lt. absurd (omega arith); ascending = refl };
-      uuids = λ k d lt. absurd (omega arith);
-    };
-  },
-  timely,
-)
-
--- the record of a commit that was put is there
-pub recorded : (who : Caller) (r : Record) (h : List DoorEntry) → IsRecord r → IsTrue (is_among r.commit (committed (h ++ called who (Put (record_name r.commit.id.uuid) (record_row r)) Done ∷ [])))
-recorded who r h is =
-    let e = called who (Put (record_name r.commit.id.uuid) (record_row r)) Done in
-    let read : records_in (record { name = record_name r.commit.id.uuid; bytes = record_row r }) ≡ r.commit ∷ [] =
-    read_own (record_name r.commit.id.uuid) (λ (c : Commit). record_name c.id.uuid) (commit_of (record_row r)) r.commit (commit_of_record_written r is.0 ∙ timely_is r.commit.id.time r.commit is.1) refl in
-    given_last (λ (x : DoorEntry). committed_by x) (same_commit r.commit) h e (subst (λ cs. IsTrue (is_among r.commit (cs ++ []))) (sym read) (is_one r.commit))
-
 -- ---- orphans
 
 -- the office found neither a record nor a marker behind its claim

@@ -4,3 +4,4 @@ pub mod Least
 pub mod Ledger
 pub mod Refusals
 pub mod Calls
+pub mod Tried

@@ -2,10 +2,10 @@
 
 ghost use Rattle.std.specs.Prelude.{◌≡◌, ◌≢◌, ◌≤◌, ◌∷◌, ◌++◌, [], IsTrue, length};
 ghost use Rattle.aft_door.specs.Calls.{may_ask};
-ghost use Rattle.aft_door.specs.Entries.{called, claimed, released, who_calls};
+ghost use Rattle.aft_door.specs.Entries.{called, came_up, claimed, released, who_calls};
+ghost use Rattle.aft_door.specs.Tried.{caller_of, committing, first_page, id_at, opened_empty, opener, storing};
 ghost use Rattle.aft_keeper.specs.declared.keeper.KeeperAnswer.TheVariants as answers;
 ghost use Rattle.aft_keeper.specs.declared.keeper.KeeperCall.TheVariants as calls;
-ghost use Rattle.aft_model.specs.Committed.{Committed};
 ghost use Rattle.aft_model.specs.DoorKnowledge.{is_open, knows_orphan, knows_stored, knows_unused};
 ghost use Rattle.aft_model.specs.Membership.{incarnation};
 ghost use Rattle.aft_model.specs.Readings.{marker_name, record_name, version_name};
@@ -15,6 +15,9 @@ ghost use Rattle.aft_records.specs.Rows.{record_row, version_row};
 ghost use Rattle.aft_records.specs.Stored.{AreReads, IsVersion, IsWritableCommit, IsWritableId};
 
 mod lacking;
+mod refused;
+mod retired;
+mod upgraded;
 
 use crate::{Door, DoorFault};
 use aft_id::{Bytes, List, TxnId, uuid_bytes};
@@ -27,7 +30,7 @@ use uuid::Uuid;
 
 /// The office, in the opening.
 fn office() -> Caller
-    ensures { result ≡ record { node = 0; inc = 1; by = record { client = 0; line = 0 } } }
+    ensures { result ≡ opener }
 {
     let by = By { client: 0, line: 0 };
     Caller {
@@ -39,7 +42,7 @@ fn office() -> Caller
 
 /// An incarnation 1 of a node, or the office, for line 1 of client 1.
 fn caller(node: u32) -> Caller
-    ensures { result ≡ record { node = node; inc = 1; by = record { client = 1; line = 1 } } }
+    ensures { result ≡ caller_of node }
 {
     let by = By { client: 1, line: 1 };
     Caller { node, inc: 1, by }
@@ -47,8 +50,8 @@ fn caller(node: u32) -> Caller
 
 /// A scan that shows nothing.
 fn scan_nothing(rt: &impl Abort, door: &mut Door<MemKeeper>, prefix: &str)
-    requires { IsTrue (may_ask (record { node = 0; inc = 1; by = record { client = 0; line = 0 } }) (calls.Scan prefix.now [] 64) door.old.history) }
-    ensures { door.new.history ≡ door.old.history ++ called (record { node = 0; inc = 1; by = record { client = 0; line = 0 } }) (calls.Scan prefix.now [] 64) (answers.Page []) ∷ [] }
+    requires { IsTrue (may_ask opener (calls.Scan prefix.now [] 64) door.old.history) }
+    ensures { door.new.history ≡ door.old.history ++ first_page prefix.now [] ∷ [] }
 {
     let page = door.scan(office(), prefix, "", 64).expect(rt, "a page");
     assert!(rt; page.as_slice().is_empty());
@@ -56,14 +59,16 @@ fn scan_nothing(rt: &impl Abort, door: &mut Door<MemKeeper>, prefix: &str)
 
 /// A door over an empty store, whose opening has ended.
 fn open_door(rt: &impl Abort, alloc: Global) -> Door<MemKeeper>
-    ensures { IsTrue (is_open result.history) }
+    ensures open { IsTrue (is_open result.history) }
+    ensures history { result.history ≡ opened_empty }
 {
     open_over(rt, alloc, List::from_vec(Vec::new(alloc)))
 }
 
 /// The same over a store of which some calls fail.
 fn open_over(rt: &impl Abort, alloc: Global, fails: List<Fail>) -> Door<MemKeeper>
-    ensures { IsTrue (is_open result.history) }
+    ensures open { IsTrue (is_open result.history) }
+    ensures history { result.history ≡ opened_empty }
 {
     let nothing = List::from_vec(Vec::new(alloc));
     let mut door = Door::new(alloc, MemKeeper::new(alloc, nothing, fails));
@@ -76,7 +81,8 @@ fn open_over(rt: &impl Abort, alloc: Global, fails: List<Fail>) -> Door<MemKeepe
 /// Lets an incarnation 1 come up.
 fn come_up(rt: &impl Abort, door: &mut Door<MemKeeper>, node: u32)
     requires { IsTrue (is_open door.old.history) }
-    ensures { IsTrue (is_open door.new.history) }
+    ensures open { IsTrue (is_open door.new.history) }
+    ensures history { door.new.history ≡ door.old.history ++ came_up (caller_of node).by node 1 ∷ [] }
 {
     assert!(rt; door.up_now(node).is_none());
     let came = door.up(node, 1, caller(node).by);
@@ -174,13 +180,13 @@ fn look(rt: &impl Abort, door: &mut Door<MemKeeper>, who: Caller, uuid: Uuid)
     find_nothing(rt, door, who, &Name::RetiredOf { uuid });
 }
 
-/// An id of a time.
-fn id_of(time: u64, uuid: u128) -> TxnId
-    ensures { result.time ≡ time }
+/// The id of a time, and of the UUID of a number.
+fn id_of(time: u64, number: u128) -> TxnId
+    ensures { result ≡ id_at time number }
 {
     TxnId {
         time,
-        uuid: Uuid::from_u128(uuid),
+        uuid: Uuid::from_u128(number),
     }
 }
 
@@ -242,6 +248,7 @@ fn store(
     requires timely { IsTime id.now.time }
     ensures open { IsTrue (is_open door.new.history) }
     ensures stored { IsTrue (knows_stored (who_calls who) (record { id = id.now; keys = key.now ∷ [] }) door.new.history) }
+    ensures history { door.new.history ≡ door.old.history ++ storing who key.now id.now }
 {
     look(rt, door, who, id.uuid);
     let version = empty_version(rt, alloc, id, key);
@@ -295,7 +302,7 @@ fn commit(rt: &impl Abort, alloc: Global, door: &mut Door<MemKeeper>, id: &TxnId
     requires open { IsTrue (is_open door.old.history) }
     requires timely { IsTime id.now.time }
     ensures open { IsTrue (is_open door.new.history) }
-    ensures committed { Committed (record { id = id.now; keys = key.now ∷ [] }) door.new.history }
+    ensures history { door.new.history ≡ door.old.history ++ committing key.now id.now }
 {
     let who = caller(1);
     store(rt, alloc, door, who, id, key);
@@ -357,7 +364,7 @@ fn delete_orphan(rt: &impl Abort, door: &mut Door<MemKeeper>, key: &Key, id: &Tx
     requires orphan { IsTrue (knows_orphan id.now place door.old.history) }
     requires timely { IsTime id.now.time }
     ensures open { IsTrue (is_open door.new.history) }
-    ensures history { door.new.history ≡ door.old.history ++ called (record { node = 0; inc = 1; by = record { client = 1; line = 1 } }) (calls.Delete (version_name key.now id.now)) answers.Done ∷ [] }
+    ensures history { door.new.history ≡ door.old.history ++ called (caller_of 0) (calls.Delete (version_name key.now id.now)) answers.Done ∷ [] }
 {
     door.delete_orphan(caller(0), key, copied(id), place)
         .expect(rt, "deleted");
@@ -430,30 +437,4 @@ fn pairs_behind(rt: &impl Abort, alloc: Global, after: bool) -> usize {
 fn puts_fail(rt: HostRuntime) {
     assert!(rt; pairs_behind(&rt, rt.alloc(), false) == 0);
     assert!(rt; pairs_behind(&rt, rt.alloc(), true) == 1);
-}
-
-#[test]
-fn fails(rt: HostRuntime) {
-    let alloc = rt.alloc();
-    let mut fails = Vec::new(alloc);
-    let third = Fail {
-        call: 3,
-        after: false,
-    };
-    fails.push(third).expect(&rt, "memory");
-    let mut door = open_over(&rt, alloc, List::from_vec(fails));
-    let uuid = Uuid::from_u128(1);
-    let name = Name::CommitOf { uuid };
-    let failed = door.get(caller(0), &name);
-    assert!(rt; matches!(failed, Err(DoorFault::Failed)));
-    assert!(rt; door.len() == 4);
-}
-
-#[test]
-fn finds_nothing(rt: HostRuntime) {
-    let mut door = open_door(&rt, rt.alloc());
-    let uuid = Uuid::from_u128(1);
-    let found = door.get(caller(0), &Name::CommitOf { uuid });
-    assert!(rt; matches!(found, Ok(None)));
-    assert!(rt; door.len() == 4);
 }

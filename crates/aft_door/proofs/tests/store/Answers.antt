@@ -1,4 +1,4 @@
-use Rattle.std.proofs.Common.{[]}
+use Rattle.std.proofs.Common.{[], append_assoc}
 use Rattle.aft_records.specs.declared.stored.Version.{Version}
 use Rattle.aft_door.proofs.Seen.{looked, stored}
 use Rattle.aft_door.proofs.tests.store.Goals as goal
@@ -12,3 +12,6 @@ returns-clause-stored g c =
     rw (c.put_version.ensures.history, c.empty_version-version.ensures)
     (stored c.args.who v c.look.new.door.history (rw c.empty_version-version.ensures at c.put_version.ensures.fits)
     (rw c.look.ensures.history (looked c.args.who c.args.id.now.uuid c.args.door.now.history)))
+
+pub returns-clause-history : goal.returns-clause-history
+returns-clause-history g c = rw (c.put_version.ensures.history, c.look.ensures.history, c.empty_version-version.ensures) (simp append_assoc)
