@@ -9,3 +9,6 @@ pub mod GetTurns
 pub mod GetLines
 pub mod Lines
 pub mod OpenFetches
+pub mod Placed
+pub mod OrphanLines
+pub mod DeskRuns

@@ -224,7 +224,7 @@ pub from_nowhere : (step : Progress → Turn → Option Progress) (line : List T
 from_nowhere step [] position e = (cc)
 from_nowhere step (turn ∷ line) position e = from_nowhere step line position e
 
-no_office : (command : Command) → IsTrue (is_of_attempt command) → (history : List OfficeEntry) (entry : OfficeEntry) → IsTrue (makes command (AtOffice history entry)) → ⊥
+pub no_office : (command : Command) → IsTrue (is_of_attempt command) → (history : List OfficeEntry) (entry : OfficeEntry) → IsTrue (makes command (AtOffice history entry)) → ⊥
 no_office (commands.Begin u home) of history entry is = false≢true is
 no_office (commands.Forget u home) of history entry is = false≢true is
 no_office commands.Commit of history entry is = false≢true is
@@ -261,7 +261,7 @@ module _ (command : Command) (nodes : List ℕ) (ends : Ends) (of : IsTrue (is_o
 
 -- ---- the first turn
 
-abbrev FirstIf : NodeAct → Option Progress → Type 0
+abbrev pub FirstIf : NodeAct → Option Progress → Type 0
 FirstIf act None = Unit {0}
 FirstIf act (Some q) = (q ≡ IsOver) ⊎ ((a : Attempt) × (attempt_at q ≡ Some a) × IsTrue (acts_on a act))
 
@@ -286,7 +286,7 @@ finished_first aborts part (acts.Settle a) = cases (fixed_commit (attempt_state 
     cases (Some c) = inr (a, refl, same_itself a)
 finished_first aborts part act = tt
 
-line_first : (command : Command) (nodes : List ℕ) (ends : Ends) → IsTrue (is_of_attempt command) → (at : ℕ) (history : List NodeEntry) (entry : NodeEntry) → FirstIf entry.act (advance command nodes ends NotBegun (AtNode at history entry))
+pub line_first : (command : Command) (nodes : List ℕ) (ends : Ends) → IsTrue (is_of_attempt command) → (at : ℕ) (history : List NodeEntry) (entry : NodeEntry) → FirstIf entry.act (advance command nodes ends NotBegun (AtNode at history entry))
 line_first (commands.Begin u home) nodes ends of at history entry = begun_first entry.act
 line_first (commands.Forget u home) nodes ends of at history entry = begun_first entry.act
 line_first commands.Commit nodes ends of at history entry = finished_first false (part history) entry.act
