@@ -52,8 +52,8 @@ no_fetch f act is = absurd (cc)
 first_gets : (act : NodeAct) → NodeIf None act (got_with act)
 first_gets acts.Nothing = (λ f is. no_fetch f acts.Nothing is, λ a is. absurd (false≢true is))
 first_gets (acts.Select a key (picked.Fetch id)) = (
-    λ f is. (let same : record { attempt = a; key = key; id = id } ≡ f = cc in subst (λ (g : Fetch). IsTrue (picks_fetch g.attempt g.key g.id (acts.Select a key (picked.Fetch id)))) same (pick_itself a key id)),
-    λ b is. absurd (false≢true is),
+  λ f is. (let same : record { attempt = a; key = key; id = id } ≡ f = cc in subst (λ (g : Fetch). IsTrue (picks_fetch g.attempt g.key g.id (acts.Select a key (picked.Fetch id)))) same (pick_itself a key id)),
+  λ b is. absurd (false≢true is),
 )
 first_gets (acts.Select a key pick) = (λ f is. no_fetch f (acts.Select a key pick) is, λ b is. absurd (false≢true is))
 first_gets act = tt

@@ -12,3 +12,6 @@ pub mod OpenFetches
 pub mod Placed
 pub mod OrphanLines
 pub mod DeskRuns
+pub mod HeldAt
+pub mod DeskHeld
+pub mod Copies

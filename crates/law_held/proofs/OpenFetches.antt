@@ -135,9 +135,9 @@ module _ (asked : Asked) (ran : Ran) (so : Goes asked ran) where
 
       by_other : ((numbers : List ℕ) (ends : Ends) (l : List Turn) → fetch_behind numbers ends l (Some line.order) ≡ None) × ((a : Attempt) (act : NodeAct) → IsTrue (makes_at_node line.order act) → IsTrue (ends_fetch a act) → ⊥) → NoGet
       by_other none = (
-          fetched before ∙ none.0 nodes its_ends (own_steps one.by before),
-          fetched after ∙ none.0 nodes its_ends (own_steps one.by after),
-          λ a node history entry turned. none.1 a entry.act (subst (λ (t : Turn). IsTrue (makes line.order t)) turned (turn_made asked ran so before rest one is line listed its)),
+        fetched before ∙ none.0 nodes its_ends (own_steps one.by before),
+        fetched after ∙ none.0 nodes its_ends (own_steps one.by after),
+        λ a node history entry turned. none.1 a entry.act (subst (λ (t : Turn). IsTrue (makes line.order t)) turned (turn_made asked ran so before rest one is line listed its)),
       )
 
       by_line : ByGet ⊎ NoGet
@@ -145,9 +145,9 @@ module _ (asked : Asked) (ran : Ran) (so : Goes asked ran) where
 
     by_nobody : line_among one.by (lines asked) ≡ None → NoGet
     by_nobody none = (
-        ap (λ (o : Option Line). fetch_behind nodes (ends_in asked ran o) (own_steps one.by before) (command_in o)) none,
-        ap (λ (o : Option Line). fetch_behind nodes (ends_in asked ran o) (own_steps one.by after) (command_in o)) none,
-        λ a node history entry turned ends. boots_none a entry.act (subst (λ (t : Turn). IsTrue (reads_alone t)) turned (unasked_reads asked ran so before rest one is (ap command_in none))) ends,
+      ap (λ (o : Option Line). fetch_behind nodes (ends_in asked ran o) (own_steps one.by before) (command_in o)) none,
+      ap (λ (o : Option Line). fetch_behind nodes (ends_in asked ran o) (own_steps one.by after) (command_in o)) none,
+      λ a node history entry turned ends. boots_none a entry.act (subst (λ (t : Turn). IsTrue (reads_alone t)) turned (unasked_reads asked ran so before rest one is (ap command_in none))) ends,
     )
 
     who_fetches : ByGet ⊎ NoGet

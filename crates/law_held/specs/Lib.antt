@@ -1,3 +1,4 @@
 pub mod Owning
 pub mod Fetching
 pub mod Desk
+pub mod Copies

@@ -1,13 +1,16 @@
 //! Laws of claims over whole runs, as calls that do nothing and promise them.
 
-ghost use Rattle.std.specs.Prelude.{◌≡◌, ◌++◌, List, []};
+ghost use Rattle.std.specs.Prelude.{◌≡◌, ◌++◌, List, [], ℕ};
 ghost use Rattle.aft_lines.specs.Asked.{Asked, Ran};
-ghost use Rattle.aft_lines.specs.Holding.{ClaimsHeld, FetchesStayOpen};
+ghost use Rattle.aft_lines.specs.Holding.{ClaimsHeld, DeskHeld, FetchesStayOpen};
 ghost use Rattle.aft_lines.specs.LegalTrace.{LegalTrace};
 ghost use Rattle.aft_lines.specs.RunsSoFar.{RunsSoFar};
-ghost use Rattle.aft_lines.specs.Steps.{Made};
+ghost use Rattle.aft_lines.specs.Steps.{Made, door_steps};
+ghost use Rattle.law_claims.specs.Desk.{LiesAtDesk};
 ghost use Rattle.law_claims.specs.Moments.{node_steps, scene_of};
 ghost use Rattle.law_runs.specs.Runs.{asking_of, run_steps};
+ghost use Rattle.law_held.specs.Copies.{MarksBesideNone};
+ghost use Rattle.law_held.specs.Desk.{LinesDiffer, desk_of};
 ghost use Rattle.law_held.specs.Fetching.{KeepsFetches, fetch_of};
 ghost use Rattle.law_held.specs.Owning.{Owns};
 
@@ -38,4 +41,24 @@ pub fn runs_keep_fetches()
 pub fn fetches_stay_open()
     ensures so_far { (asked : Asked) (ran : Ran) → RunsSoFar asked ran → FetchesStayOpen ran.trace }
     ensures legal { (asked : Asked) (ran : Ran) → LegalTrace asked ran → FetchesStayOpen ran.trace }
+{}
+
+/// At each moment of a run so far, and of a legal trace, each UUID lies at the desk as the rounds of orphans hold it: either
+/// none holds it, and the office has no claim of it that stands; or just one does, by the place of the office's claim.
+pub fn runs_keep_desk()
+    ensures so_far { (asked : Asked) (ran : Ran) (made rest : List Made) (uuid : List ℕ) → RunsSoFar asked ran → run_steps ran ≡ made ++ rest → LiesAtDesk (door_steps made) (desk_of (asking_of asked ran) made) uuid }
+    ensures legal { (asked : Asked) (ran : Ran) (made rest : List Made) (uuid : List ℕ) → LegalTrace asked ran → run_steps ran ≡ made ++ rest → LiesAtDesk (door_steps made) (desk_of (asking_of asked ran) made) uuid }
+{}
+
+/// So in a run so far of lines that differ, and in any legal trace, the office holds each UUID that it has claimed by just the
+/// place of the one line that holds it, or not at all where no line does.
+pub fn desk_is_held()
+    ensures so_far { (asked : Asked) (ran : Ran) → RunsSoFar asked ran → LinesDiffer asked → DeskHeld asked ran }
+    ensures legal { (asked : Asked) (ran : Ran) → LegalTrace asked ran → DeskHeld asked ran }
+{}
+
+/// In a run so far, and in a legal trace, no full marker is put while a copier is up.
+pub fn marks_stand_alone()
+    ensures so_far { (asked : Asked) (ran : Ran) → RunsSoFar asked ran → MarksBesideNone ran.trace.door }
+    ensures legal { (asked : Asked) (ran : Ran) → LegalTrace asked ran → MarksBesideNone ran.trace.door }
 {}

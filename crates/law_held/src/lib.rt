@@ -5,4 +5,7 @@
 
 mod laws;
 
-pub use laws::{claims_are_held, fetches_stay_open, runs_keep_fetches, runs_own};
+pub use laws::{
+    claims_are_held, desk_is_held, fetches_stay_open, marks_stand_alone, runs_keep_desk,
+    runs_keep_fetches, runs_own,
+};

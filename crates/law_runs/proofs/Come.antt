@@ -137,7 +137,7 @@ module _ (asked : Asked) (ran : Ran) (so : Goes asked ran) where
   pub opening_alone : IsTrue (list_all reads_alone (turns opening ran.trace))
   opening_alone = opening_reads (node_numbers asked.settings) ran.trace so.door opens_parts.1
 
-  most_nodes : length ran.trace.nodes ≤ 8
+  pub most_nodes : length ran.trace.nodes ≤ 8
   most_nodes =
       let fits = and_parts (are_settings asked.settings && eqb (length ran.trace.nodes) asked.settings.nodes) (eqb (length ran.mail) (suc asked.settings.nodes)) so.settings in
       let these = and_parts (are_settings asked.settings) (eqb (length ran.trace.nodes) asked.settings.nodes) fits.0 in

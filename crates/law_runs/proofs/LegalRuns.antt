@@ -35,7 +35,7 @@ use Rattle.std.specs.List.{list_all}
 use Rattle.std.specs.Prelude.{IsTrue, None, Option, Some, is_some}
 use Rattle.aft_model.specs.declared.script.Command.TheVariants as commands
 
-course_led : (command : Command) (nodes : List ℕ) (ends : Ends) (line : List Turn) → ends.is_shut_out the_office 0 ≡ false → IsTrue (answers_last line) → IsTrue (follows_course command nodes ends line) → IsTrue (is_led_to_end (leads_to command nodes ends line))
+pub course_led : (command : Command) (nodes : List ℕ) (ends : Ends) (line : List Turn) → ends.is_shut_out the_office 0 ≡ false → IsTrue (answers_last line) → IsTrue (follows_course command nodes ends line) → IsTrue (is_led_to_end (leads_to command nodes ends line))
 course_led (commands.Begin uuid node) nodes ends line up last is = sym (begin_led uuid node nodes ends line) ∙ is
 course_led (commands.Forget uuid node) nodes ends line up last is = sym (forget_led uuid node nodes ends line) ∙ is
 course_led (commands.Get key) nodes ends line up last is = sym (get_led key nodes ends line) ∙ is

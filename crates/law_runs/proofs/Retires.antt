@@ -246,7 +246,7 @@ module _ (asked : Asked) (ran : Ran) (so : Goes asked ran) where
               absurd (false≢true (subst (λ (n : List ℕ). IsTrue (is_under markers_prefix n)) (read-name name (λ (w : Record). record_name w.commit.id.uuid) (record_of bytes) found.0 found.1) under)))
         ]
 
-    gave_up : In c (marks_in pair) → IsTrue (all_gave_up h c.id)
+    pub gave_up : In c (marks_in pair) → IsTrue (all_gave_up h c.id)
     gave_up among = (let found = in_flat_map retired_by c (markers_in pair) among in by_marker found.0 found.1 found.2)
 
   retires_at : (h : List DoorEntry) (entry : DoorEntry) (more : List DoorEntry) → ran.trace.door ≡ h ++ entry ∷ more → (act : DoorAct) → IsTrue (may_come h act) ⊎ IsTrue (may_read h act) → IsTrue (retires_unheld_in h act)
