@@ -1,25 +1,17 @@
 -- At each moment of a run whoever needs its claim holds it.
-use Rattle.std.proofs.Common.{◌≡◌, ℕ, Bool, true, false, ◌&&◌, ◌||◌, not, List, [], ◌∷◌, ◌++◌, refl, sym, ap, subst, ◌∙◌, ◌⊎◌, inl, inr, append-nil, append_assoc, take}
-use Rattle.std.specs.Prelude.{IsTrue, IsFalse, None, Option, Some}
-use Rattle.std.proofs.lemmas.Bool.{and_parts, cases_Bool, eq-eqb, false≢true, false_from_ne_true, true≢false}
+use Rattle.std.proofs.Common.{◌≡◌, ℕ, List, [], ◌∷◌, ◌++◌, sym, ap, subst, ◌∙◌, append-nil, append_assoc}
+use Rattle.std.specs.Prelude.{None, Some}
+use Rattle.std.proofs.lemmas.Bool.{false≢true}
 use Rattle.aft_model.specs.declared.caller.Attempt.{Attempt}
 use Rattle.aft_model.specs.declared.caller.By.{By}
 use Rattle.aft_model.specs.declared.door.DoorAct.{DoorAct}
-use Rattle.aft_model.specs.declared.door.DoorEntry.{DoorEntry}
 use Rattle.aft_model.specs.declared.node.NodeEntry.{NodeEntry}
-use Rattle.aft_model.specs.declared.script.Command.{Command}
-use Rattle.aft_model.specs.Attempts.{attempt_state, is_gone}
-use Rattle.aft_model.specs.Course.{releases}
 use Rattle.aft_model.specs.LegalNode.{LegalNode}
-use Rattle.aft_model.specs.NodeState.{node_state}
-use Rattle.aft_lines.specs.Advance.{advance, leads_to}
-use Rattle.aft_lines.specs.CourseWords.{Ends, caller_of}
 use Rattle.aft_lines.specs.Progress.{MustEnd, Outcome, Progress}
 use Rattle.aft_lines.specs.Steps.{Made, own_steps}
 use Rattle.aft_lines.specs.Turns.{AtDoor, AtNode, AtOffice, Turn}
-use Rattle.law_holders.specs.Rows.{is_of_attempt, uuid_at}
-use Rattle.law_claims.specs.Doing.{attempt_at, names_uuid}
-use Rattle.law_claims.specs.Moments.{Asking, ByCommand, ByCourse, ByNobody, Comes, IsMade, MayCome, node_steps, scene_of}
+use Rattle.law_claims.specs.Doing.{attempt_at}
+use Rattle.law_claims.specs.Moments.{Asking, ByCommand, ByCourse, ByNobody, Comes, IsMade, MayCome, scene_of}
 use Rattle.law_claims.specs.Scenes.{AreLegal, Keeps, Scene}
 use Rattle.law_claims.proofs.Moments.{at_bystander, at_first, at_nobody, door_step, goes_along, node_step, step_keeps}
 use Rattle.law_claims.proofs.Movers.{door_mover}

@@ -1,8 +1,7 @@
 -- In a run no full marker is put while a copier is up.
-use Rattle.std.proofs.Common.{◌≡◌, ℕ, suc, Bool, true, false, ◌&&◌, ◌||◌, not, List, [], ◌∷◌, ◌++◌, ◌+◌, ◌<◌, ◌≤◌, length, refl, sym, ap, subst, ◌∙◌, ◌⊎◌, inl, inr, eqb, arith, append_assoc}
-use Rattle.std.specs.Prelude.{IsTrue, IsFalse, if◌then◌else◌}
-use Rattle.std.specs.List.{list_all, list_any}
-use Rattle.std.proofs.lemmas.Bool.{and_parts, cases_Bool, eqb-true, eq-eqb, false≢true, ne_eqb, or_cases, or_left, or_right, true≢false}
+use Rattle.std.proofs.Common.{◌≡◌, ℕ, suc, Bool, false, ◌&&◌, ◌||◌, not, List, [], ◌∷◌, ◌++◌, ◌+◌, ◌≤◌, length, refl, ap, subst, ◌∙◌, ◌⊎◌, inl, inr, eqb, arith, append_assoc}
+use Rattle.std.specs.Prelude.{IsTrue, if◌then◌else◌}
+use Rattle.std.proofs.lemmas.Bool.{and_parts, cases_Bool, eqb-true, false≢true, ne_eqb, or_cases, or_left, or_right}
 use Rattle.aft_id.specs.declared.txn_id.TxnId.{TxnId}
 use Rattle.aft_keeper.specs.declared.keeper.KeeperCall.TheVariants as calls
 use Rattle.aft_keeper.specs.declared.keeper.Pair.{Pair}
@@ -15,7 +14,7 @@ use Rattle.aft_model.specs.Claims.{given_up, gives_up}
 use Rattle.aft_model.specs.Committed.{marks_in}
 use Rattle.aft_model.specs.DoorRules.{may_put}
 use Rattle.aft_model.specs.History.{each_after}
-use Rattle.aft_model.specs.LegalDoor.{Legal, may_come, may_follow}
+use Rattle.aft_model.specs.LegalDoor.{may_come, may_follow}
 use Rattle.aft_model.specs.Membership.{Incarnation, incarnation, is_up, same_incarnation, the_office, ups}
 use Rattle.aft_model.specs.Opening.{has_failed, may_read}
 use Rattle.aft_model.proofs.Histories.{In, all_at, any_found, each_after_split}

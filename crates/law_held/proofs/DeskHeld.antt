@@ -1,8 +1,8 @@
 -- In a run the office holds each UUID that it has claimed by the place of the one line that holds it.
-use Rattle.std.proofs.Common.{◌≡◌, ℕ, Bool, true, false, ◌&&◌, not, List, [], ◌∷◌, ◌++◌, refl, sym, ap, subst, ◌∙◌, inl, inr, append_assoc, append-nil}
+use Rattle.std.proofs.Common.{◌≡◌, ℕ, Bool, true, false, ◌&&◌, List, [], ◌∷◌, ◌++◌, refl, sym, ap, subst, ◌∙◌, inl, inr, append-nil}
 use Rattle.std.specs.Prelude.{IsTrue, IsFalse, None, Option, Some, filter, if◌then◌else◌, map, nat_eq}
 use Rattle.std.specs.Cmp.Lexicographic.{pointwise}
-use Rattle.std.specs.List.{flat_map, list_all, list_any}
+use Rattle.std.specs.List.{flat_map, list_any}
 use Rattle.std.specs.Str.{bytes_eq}
 use Rattle.std.proofs.lemmas.Bool.{and_from, and_parts, cases_Bool, eq-eqb, false≢true, false_from_ne_true, not-true, true≢false}
 use Rattle.aft_model.specs.declared.caller.By.{By}
@@ -12,14 +12,13 @@ use Rattle.aft_model.specs.declared.script.Command.TheVariants as commands
 use Rattle.aft_model.specs.declared.script.Line.{Line}
 use Rattle.aft_model.specs.Claims.{claim_place, claimant, holds, is_held_by}
 use Rattle.aft_model.specs.History.{each_after}
-use Rattle.aft_model.specs.LegalDoor.{Legal}
 use Rattle.aft_model.specs.Membership.{the_office}
 use Rattle.aft_model.specs.ScanRun.{same_line}
 use Rattle.aft_model.proofs.Histories.{In, all_at, any_from, in_back, in_front}
 use Rattle.aft_model.proofs.Lists.{all_from}
 use Rattle.aft_model.proofs.Sights.{bytes_eq-refl, same_bytes}
 use Rattle.aft_model.proofs.Turns.{held_up}
-use Rattle.aft_lines.specs.Advance.{is_led_to_end, leads_to}
+use Rattle.aft_lines.specs.Advance.{is_led_to_end}
 use Rattle.aft_lines.specs.Asked.{Asked, Ran}
 use Rattle.aft_lines.specs.CourseWords.{Ends}
 use Rattle.aft_lines.specs.FinishedText.{line_of}
@@ -28,13 +27,13 @@ use Rattle.aft_lines.specs.LegalTrace.{LegalTrace}
 use Rattle.aft_lines.specs.LineCourse.{answers_last, follows_course}
 use Rattle.aft_lines.specs.LineView.{ends_of}
 use Rattle.aft_lines.specs.Lines.{lines, node_numbers}
-use Rattle.aft_lines.specs.Progress.{AtDesk, IsOver, Progress, Stopped, has_ended}
+use Rattle.aft_lines.specs.Progress.{AtDesk, IsOver, Progress, Stopped}
 use Rattle.aft_lines.specs.RunsSoFar.{position_of}
-use Rattle.aft_lines.specs.Steps.{door_steps, own_steps}
+use Rattle.aft_lines.specs.Steps.{own_steps}
 use Rattle.aft_lines.specs.Turns.{Turn, turns}
 use Rattle.aft_lines.specs.Views.{view_of}
 use Rattle.law_claims.specs.Desk.{IsHeldBy, IsNotHeld, LiesAtDesk, has_at_desk}
-use Rattle.law_claims.specs.Moments.{Asking, or_not_begun}
+use Rattle.law_claims.specs.Moments.{or_not_begun}
 use Rattle.law_claims.proofs.DeskSteps.{desk_tells}
 use Rattle.law_claims.proofs.Scenes.{by_itself, same_by}
 use Rattle.law_runs.specs.Runs.{Goes, asking_of, command_in, ends_in, line_among, run_steps, without_office}
@@ -58,7 +57,7 @@ differ_in before (x ∷ ls) so m n there (inl is) =
 differ_in before (x ∷ ls) so m n there (inr later) = differ_in (before ++ x ∷ []) ls (and_parts (is_another before x) (each_after is_another (before ++ x ∷ []) ls) so).1 m n (in_front m before (x ∷ []) there) later
 
 -- the first of some lines that differ which is this one is this one
-among_itself : (before ls : List Line) → IsTrue (each_after is_another before ls) → (n : Line) → In n ls → line_among (line_of n) ls ≡ Some n
+pub among_itself : (before ls : List Line) → IsTrue (each_after is_another before ls) → (n : Line) → In n ls → line_among (line_of n) ls ≡ Some n
 among_itself before [] so n none = absurd none
 among_itself before (x ∷ ls) so n (inl is) = subst (λ (y : Line). line_among (line_of y) (x ∷ ls) ≡ Some y) (sym is) (ap (λ (b : Bool). if b then Some x else line_among (line_of x) ls) (by_itself (line_of x)))
 among_itself before (x ∷ ls) so n (inr later) =
@@ -145,7 +144,7 @@ module _ (asked : Asked) (ran : Ran) (so : Goes asked ran) where
     come_there : holds_at line ≡ held_at (has_come asked ran so line listed).0
     come_there = ap held_at_position (has_come asked ran so line listed).1
 
-    desk_is : desk (line_of line) ≡ holds_at line
+    pub desk_is : desk (line_of line) ≡ holds_at line
     desk_is = elim (cases_Bool (is_round line.order)) [
       | inl round ↦
           (let its = round_so line.order round in
@@ -160,7 +159,7 @@ module _ (asked : Asked) (ran : Ran) (so : Goes asked ran) where
     ]
 
   -- how each UUID lies in the end
-  lies : (uuid : List ℕ) → LiesAtDesk ran.trace.door desk uuid
+  pub lies : (uuid : List ℕ) → LiesAtDesk ran.trace.door desk uuid
   lies uuid = subst (λ (d : List DoorEntry). LiesAtDesk d desk uuid) (door_is (without_office ran.trace)) (lies_behind asked ran so (run_steps ran) [] (sym (append-nil (run_steps ran))) uuid)
 
   -- of a line that holds something, one that is asked

@@ -1,8 +1,7 @@
 -- At each moment of a run each UUID lies at the desk as the rounds of orphans hold it.
-use Rattle.std.proofs.Common.{◌≡◌, ℕ, Bool, true, false, ◌&&◌, List, [], ◌∷◌, ◌++◌, length, refl, sym, ap, subst, ◌∙◌, ◌⊎◌, inl, inr, append-nil, append_assoc}
+use Rattle.std.proofs.Common.{◌≡◌, ℕ, false, List, [], ◌∷◌, ◌++◌, length, refl, sym, ap, subst, ◌∙◌, ◌⊎◌, inl, inr, append-nil, append_assoc}
 use Rattle.std.specs.Prelude.{IsTrue, IsFalse, None, Option, Some}
 use Rattle.std.proofs.lemmas.Bool.{and_parts, cases_Bool, false≢true, false_from_ne_true, true≢false}
-use Rattle.aft_keeper.specs.declared.keeper.KeeperCall.TheVariants as calls
 use Rattle.aft_model.specs.declared.caller.By.{By}
 use Rattle.aft_model.specs.declared.door.DoorAct.{DoorAct}
 use Rattle.aft_model.specs.declared.door.DoorAct.TheVariants as doors
@@ -11,7 +10,6 @@ use Rattle.aft_model.specs.declared.node.NodeEntry.{NodeEntry}
 use Rattle.aft_model.specs.declared.script.Command.{Command}
 use Rattle.aft_model.specs.declared.script.Command.TheVariants as commands
 use Rattle.aft_model.specs.declared.script.Line.{Line}
-use Rattle.aft_model.specs.Claims.{claimant, is_held_by}
 use Rattle.aft_model.specs.LegalDoor.{Legal}
 use Rattle.aft_model.specs.Membership.{Incarnation, incarnation, same_incarnation, the_office}
 use Rattle.aft_model.specs.ScanRun.{same_line}
@@ -19,7 +17,7 @@ use Rattle.aft_model.proofs.Histories.{In, in_back}
 use Rattle.aft_model.proofs.OneCommit.{same_who}
 use Rattle.aft_lines.specs.Advance.{advance, desk_behind, leads_to}
 use Rattle.aft_lines.specs.Asked.{Asked, Ran}
-use Rattle.aft_lines.specs.CourseWords.{Ends, caller_of}
+use Rattle.aft_lines.specs.CourseWords.{Ends}
 use Rattle.aft_lines.specs.FinishedText.{line_of}
 use Rattle.aft_lines.specs.Holding.{held_at}
 use Rattle.aft_lines.specs.LineView.{door_entry_in, ends_of}
@@ -33,7 +31,6 @@ use Rattle.law_holders.specs.Rows.{caller_at, is_of_attempt, is_of_node, is_own_
 use Rattle.law_holders.proofs.Own.{acts_own, other_caller}
 use Rattle.law_claims.specs.Desk.{IsHeldBy, IsNotHeld, LiesAtDesk, has_at_desk, is_at_desk, is_desk_row, is_of_desk}
 use Rattle.law_claims.specs.Moments.{Asking, ByCommand, ByCourse, ByNobody, Comes, IsMade, or_not_begun, scene_of}
-use Rattle.law_claims.specs.Scenes.{Keeps}
 use Rattle.law_claims.proofs.Desk.{desk_follows}
 use Rattle.law_claims.proofs.DeskSteps.{others_lie, round_lies}
 use Rattle.law_claims.proofs.Moments.{door-snoc, goes_along, own_other}
@@ -46,7 +43,7 @@ use Rattle.law_runs.proofs.Members.{no_office_step}
 use Rattle.law_runs.proofs.Reading.{reads_alone}
 use Rattle.law_turns.specs.Order.{is_at_office}
 use Rattle.law_held.specs.Desk.{desk_of, desk_of_turns}
-use Rattle.law_held.proofs.Lines.{Leads, leads}
+use Rattle.law_held.proofs.Lines.{leads}
 use Rattle.law_held.proofs.OrphanLines.{round_led, rows}
 use Rattle.law_held.proofs.Placed.{placed}
 

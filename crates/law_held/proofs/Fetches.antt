@@ -1,13 +1,12 @@
 -- One entry more at a node keeps what each moment keeps of fetches.
-use Rattle.std.proofs.Common.{◌≡◌, ℕ, zero, suc, Bool, true, false, ◌&&◌, ◌||◌, List, [], ◌∷◌, ◌++◌, ◌-◌, length, refl, sym, ap, subst, ◌∙◌, ◌⊎◌, inl, inr, append-nil, append_assoc, eqb, arith}
-use Rattle.std.specs.Prelude.{IsTrue, IsFalse, None, Option, Some, filter, if◌then◌else◌, nat_lt, nat_le}
+use Rattle.std.proofs.Common.{◌≡◌, ℕ, suc, Bool, true, false, ◌&&◌, ◌||◌, List, [], ◌∷◌, ◌++◌, ◌-◌, length, refl, sym, ap, subst, ◌∙◌, ◌⊎◌, inl, inr, append-nil, append_assoc, eqb, arith}
+use Rattle.std.specs.Prelude.{IsTrue, IsFalse, Option, Some, if◌then◌else◌, nat_lt}
 use Rattle.std.specs.List.{fold, list_any}
 use Rattle.std.specs.Str.{bytes_eq}
 use Rattle.std.proofs.lemmas.Bool.{and_from, and_parts, cases_Bool, eq-eqb, eqb-true, false≢true, lt-ltb, or_cases, or_left, or_right, true≢false}
 use Rattle.std.proofs.lemmas.List.Sums.{fold-append}
 use Rattle.aft_id.specs.declared.txn_id.TxnId.{TxnId}
 use Rattle.aft_id.specs.TxnId.{same_id}
-use Rattle.aft_records.specs.declared.stored.Commit.{Commit}
 use Rattle.aft_model.specs.declared.caller.Attempt.{Attempt}
 use Rattle.aft_model.specs.declared.caller.By.{By}
 use Rattle.aft_model.specs.declared.choice.Picked.TheVariants as picked
@@ -15,7 +14,7 @@ use Rattle.aft_model.specs.declared.node.NodeAct.{NodeAct}
 use Rattle.aft_model.specs.declared.node.NodeAct.TheVariants as acts
 use Rattle.aft_model.specs.declared.node.NodeEntry.{NodeEntry}
 use Rattle.aft_model.specs.declared.read_set.ReadPair.{ReadPair}
-use Rattle.aft_model.specs.Attempts.{AttemptState, IsRunning, attempt_state, ends_fetch, fetches, is_read, is_running, open_after, open_reads, read_by, reads, reads_after, same_attempt, with_read}
+use Rattle.aft_model.specs.Attempts.{AttemptState, attempt_state, ends_fetch, fetches, is_read, is_running, open_after, open_reads, read_by, reads, reads_after, same_attempt, with_read}
 use Rattle.aft_model.specs.History.{each_prefix}
 use Rattle.aft_model.specs.LegalNode.{LegalNode}
 use Rattle.aft_model.specs.NodeState.{IsBooting, IsServing, NodeState, Service, extended, goes_on, node_state, part, part_in, serves, service_in, state_after, stopped}
@@ -159,7 +158,7 @@ module _ (by : By) (a : Attempt) (key : List ℕ) (id : TxnId) where
   abbrev its_pick : NodeEntry → Bool
   its_pick entry = same_line by entry.by && picks_fetch a key id entry.act
 
-  open_now : (before entries : List NodeEntry) → IsTrue (is_open_since by a key id before entries) → IsTrue (has_it_open a key id (before ++ entries))
+  pub open_now : (before entries : List NodeEntry) → IsTrue (is_open_since by a key id before entries) → IsTrue (has_it_open a key id (before ++ entries))
   open_now before [] is = absurd (false≢true is)
   open_now before (entry ∷ entries) is =
       elim (or_cases (its_pick entry && each_prefix (has_it_open a key id) (before ++ entry ∷ []) entries) (is_open_since by a key id (before ++ entry ∷ []) entries) is) [

@@ -1,9 +1,8 @@
 -- The own steps of a get are its turns, and where they lead it.
-use Rattle.std.proofs.Common.{◌≡◌, ℕ, Bool, true, false, ◌&&◌, ◌||◌, not, List, [], ◌∷◌, ◌++◌, refl, sym, ap, subst, ◌∙◌, eqb}
-use Rattle.std.specs.Prelude.{IsTrue, None, Option, Some, is_none}
+use Rattle.std.proofs.Common.{◌≡◌, ℕ, ◌||◌, not, List, [], ◌++◌, refl, sym, ap, subst, ◌∙◌, eqb}
+use Rattle.std.specs.Prelude.{IsTrue, Option, Some, is_none}
 use Rattle.std.specs.List.{fold, list_all}
 use Rattle.std.proofs.lemmas.Bool.{false≢true}
-use Rattle.aft_id.specs.declared.txn_id.TxnId.{TxnId}
 use Rattle.aft_model.specs.declared.caller.By.{By}
 use Rattle.aft_model.specs.declared.node.NodeAct.{NodeAct}
 use Rattle.aft_model.specs.declared.node.NodeAct.TheVariants as acts
@@ -14,7 +13,6 @@ use Rattle.aft_model.proofs.Histories.{In, all_at, in_back}
 use Rattle.aft_model.proofs.Lists.{all_from}
 use Rattle.aft_lines.specs.Advance.{leads_to}
 use Rattle.aft_lines.specs.Asked.{Asked, Ran}
-use Rattle.aft_lines.specs.FinishedText.{line_of}
 use Rattle.aft_lines.specs.LineView.{ends_of}
 use Rattle.aft_lines.specs.Lines.{lines, node_numbers}
 use Rattle.aft_lines.specs.Makes.{makes, makes_at_node}

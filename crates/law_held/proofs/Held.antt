@@ -1,13 +1,12 @@
 -- In a run so far whoever needs its claim holds it.
-use Rattle.std.proofs.Common.{◌≡◌, ℕ, zero, suc, Bool, true, false, ◌&&◌, ◌||◌, not, List, [], ◌∷◌, ◌++◌, ◌≤◌, refl, sym, ap, subst, ◌∙◌, ◌⊎◌, inl, inr, append-nil, append_assoc, take, eqb, length, arith}
-use Rattle.std.specs.Prelude.{IsTrue, IsFalse, None, Option, Some, if◌then◌else◌}
+use Rattle.std.proofs.Common.{◌≡◌, ℕ, suc, Bool, ◌&&◌, ◌||◌, not, List, [], ◌∷◌, ◌++◌, ◌≤◌, refl, sym, ap, subst, ◌∙◌, inl, inr, append-nil, append_assoc, length, arith}
+use Rattle.std.specs.Prelude.{IsTrue, IsFalse, Option, Some, if◌then◌else◌}
 use Rattle.std.specs.List.{list_all}
-use Rattle.std.proofs.lemmas.Bool.{and_from, and_parts, cases_Bool, eq-eqb, false≢true, ne_eqb, not-true, or_cases, or_left, or_right, true≢false}
+use Rattle.std.proofs.lemmas.Bool.{and_from, and_parts, cases_Bool, eq-eqb, ne_eqb, not-true, or_cases, or_left, or_right, true≢false}
 use Rattle.aft_model.specs.declared.caller.Attempt.{Attempt}
 use Rattle.aft_model.specs.declared.caller.By.{By}
 use Rattle.aft_model.specs.declared.door.DoorEntry.{DoorEntry}
 use Rattle.aft_model.specs.declared.node.NodeEntry.{NodeEntry}
-use Rattle.aft_model.specs.declared.trace.Trace.{Trace}
 use Rattle.aft_model.specs.Attempts.{AttemptState, attempt_state, attempts, is_committing, is_gone, is_in_doubt, is_leaving, is_running, owner, present, uuid_of}
 use Rattle.aft_model.specs.Claims.{holds}
 use Rattle.aft_model.specs.History.{each_after}
@@ -21,10 +20,9 @@ use Rattle.aft_model.proofs.Lists.{all_from, in_filter}
 use Rattle.aft_lines.specs.Asked.{Asked, Ran}
 use Rattle.aft_lines.specs.CourseWords.{caller_of}
 use Rattle.aft_lines.specs.Headline.{seen_at}
-use Rattle.aft_lines.specs.Holding.{ClaimsHeld, all_hold, claims_held, holds_after, is_held_for, is_released_by, needs_claim}
+use Rattle.aft_lines.specs.Holding.{ClaimsHeld, all_hold, holds_after, is_held_for, is_released_by, needs_claim}
 use Rattle.aft_lines.specs.Steps.{Made, door_steps, made_at_node}
 use Rattle.aft_lines.specs.Turns.{AtNode}
-use Rattle.law_attempts.specs.Acts.{first_attempts}
 use Rattle.law_attempts.proofs.Lives.{lives}
 use Rattle.law_attempts.proofs.Standing.{first_within}
 use Rattle.law_holders.specs.Rows.{is_of_node}

@@ -1,11 +1,10 @@
 -- Lines of other commands than rounds of orphans hold nothing for the office.
-use Rattle.std.proofs.Common.{◌≡◌, ℕ, Bool, true, false, ◌&&◌, not, List, [], ◌∷◌, ◌++◌, refl, sym, ap, subst, ◌∙◌, ◌⊎◌, inl, inr, eqb}
-use Rattle.std.specs.Prelude.{IsTrue, IsFalse, None, Option, Some, if◌then◌else◌, is_some}
+use Rattle.std.proofs.Common.{◌≡◌, ℕ, Bool, true, false, ◌&&◌, not, List, [], ◌∷◌, ◌++◌, refl, sym, ap, subst, ◌∙◌, inl, inr, eqb}
+use Rattle.std.specs.Prelude.{IsTrue, None, Option, Some, if◌then◌else◌, is_some}
 use Rattle.std.specs.List.{fold, list_all}
 use Rattle.std.specs.Str.{bytes_eq}
-use Rattle.std.proofs.lemmas.Bool.{and_parts, false≢true, true≢false}
+use Rattle.std.proofs.lemmas.Bool.{and_parts, true≢false}
 use Rattle.aft_id.specs.declared.txn_id.TxnId.{TxnId}
-use Rattle.aft_keeper.specs.declared.keeper.KeeperAnswer.{KeeperAnswer}
 use Rattle.aft_keeper.specs.declared.keeper.KeeperCall.TheVariants as calls
 use Rattle.aft_records.specs.declared.stored.Commit.{Commit}
 use Rattle.aft_model.specs.declared.caller.Attempt.{Attempt}
@@ -13,7 +12,6 @@ use Rattle.aft_model.specs.declared.choice.Picked.TheVariants as picked
 use Rattle.aft_model.specs.declared.door.DoorAct.TheVariants as doors
 use Rattle.aft_model.specs.declared.node.NodeAct.{NodeAct}
 use Rattle.aft_model.specs.declared.node.NodeAct.TheVariants as acts
-use Rattle.aft_model.specs.declared.node.NodeEntry.{NodeEntry}
 use Rattle.aft_model.specs.declared.office.OfficeAct.{OfficeAct}
 use Rattle.aft_model.specs.declared.reply.Reply.{Reply}
 use Rattle.aft_model.specs.declared.script.Command.{Command}
@@ -21,7 +19,7 @@ use Rattle.aft_model.specs.declared.script.Command.TheVariants as commands
 use Rattle.aft_model.specs.Membership.{Incarnation, incarnation, same_incarnation}
 use Rattle.aft_model.specs.NodeState.{node_state}
 use Rattle.aft_model.specs.Readings.{version_name}
-use Rattle.aft_lines.specs.Advance.{GoesOn, HasEnded, Scan, advance, advanced, behind_boot_page, behind_copied_markers, behind_copied_records, boot_paged, booted_by, closed_by, copied_by, copies_on, fenced_by, fetched_by, goes_along, got_with, if_so, leads_to, made_along, paged_by, place_of, scan_of, scanned_by, started_with, to_copy, told_by_office}
+use Rattle.aft_lines.specs.Advance.{GoesOn, HasEnded, Scan, advance, advanced, behind_boot_page, behind_copied_markers, behind_copied_records, booted_by, closed_by, copied_by, copies_on, fenced_by, fetched_by, goes_along, got_with, if_so, leads_to, made_along, paged_by, place_of, scan_of, scanned_by, started_with, to_copy, told_by_office}
 use Rattle.aft_lines.specs.BackupCourse.{Copier, finds_copy, is_next_copier, tells_copy, tells_not_begun}
 use Rattle.aft_lines.specs.CourseWords.{Ends, answers_down, caller_of, closes, ends_at_node, ends_at_office}
 use Rattle.aft_lines.specs.GetCourse.{ends_get, loses}

@@ -15,3 +15,5 @@ pub mod DeskRuns
 pub mod HeldAt
 pub mod DeskHeld
 pub mod Copies
+pub mod Stand
+pub mod StandOthers

@@ -1,15 +1,12 @@
 -- Where a line comes with one step more, if its own steps lead it somewhere.
-use Rattle.std.proofs.Common.{◌≡◌, ℕ, Bool, List, [], ◌∷◌, ◌++◌, refl, sym, ap, subst, ◌∙◌, append_assoc}
-use Rattle.std.specs.Prelude.{IsTrue, None, Option, Some, filter, if◌then◌else◌, map}
-use Rattle.std.proofs.lemmas.List.Sums.{fold-append}
-use Rattle.aft_model.specs.declared.caller.By.{By}
+use Rattle.std.proofs.Common.{◌≡◌, ℕ, Bool, List, [], ◌∷◌, ◌++◌, sym, ap, ◌∙◌, append_assoc}
+use Rattle.std.specs.Prelude.{Some, filter, if◌then◌else◌, map}
 use Rattle.aft_model.specs.declared.script.Command.{Command}
 use Rattle.aft_model.specs.ScanRun.{same_line}
-use Rattle.aft_lines.specs.Advance.{advance, advanced, leads_to}
+use Rattle.aft_lines.specs.Advance.{advance, leads_to}
 use Rattle.aft_lines.specs.CourseWords.{Ends}
-use Rattle.aft_lines.specs.Progress.{NotBegun, Progress}
+use Rattle.aft_lines.specs.Progress.{Progress}
 use Rattle.aft_lines.specs.Steps.{Made, own_steps}
-use Rattle.aft_lines.specs.Turns.{Turn}
 use Rattle.law_claims.proofs.Moments.{own_same}
 use Rattle.law_claims.proofs.Scenes.{by_itself}
 use Rattle.law_runs.proofs.Come.{leads_before}

@@ -1,9 +1,9 @@
 -- In a run so far each fetch that ends stood open since its line's pick.
-use Rattle.std.proofs.Common.{◌≡◌, ℕ, suc, Bool, true, false, ◌&&◌, List, [], ◌∷◌, ◌++◌, ◌≤◌, refl, sym, ap, subst, ◌∙◌, ◌⊎◌, inl, inr, append-nil, append_assoc, eqb, arith}
+use Rattle.std.proofs.Common.{◌≡◌, ℕ, suc, Bool, false, ◌&&◌, List, [], ◌∷◌, ◌++◌, ◌≤◌, refl, sym, ap, subst, ◌∙◌, ◌⊎◌, inl, inr, append-nil, append_assoc, eqb, arith}
 use Rattle.std.specs.Prelude.{IsTrue, IsFalse, None, Option, Some, if◌then◌else◌}
 use Rattle.std.specs.List.{list_all}
 use Rattle.std.specs.Str.{bytes_eq}
-use Rattle.std.proofs.lemmas.Bool.{and_from, and_parts, cases_Bool, eq-eqb, eqb-true, false≢true, false_from_ne_true, ne_eqb, true≢false}
+use Rattle.std.proofs.lemmas.Bool.{and_from, cases_Bool, eq-eqb, false≢true, false_from_ne_true, ne_eqb, true≢false}
 use Rattle.aft_id.specs.declared.txn_id.TxnId.{TxnId}
 use Rattle.aft_id.specs.TxnId.{same_id}
 use Rattle.aft_model.specs.declared.caller.Attempt.{Attempt}
@@ -18,10 +18,9 @@ use Rattle.aft_model.specs.declared.script.Line.{Line}
 use Rattle.aft_model.specs.Attempts.{ends_fetch, same_attempt}
 use Rattle.aft_model.specs.History.{each_after}
 use Rattle.aft_model.specs.LegalNode.{LegalNode}
-use Rattle.aft_model.specs.NodeState.{IsServing, node_state, part, serves}
+use Rattle.aft_model.specs.NodeState.{node_state, part}
 use Rattle.aft_model.specs.ScanRun.{same_line}
 use Rattle.aft_model.proofs.Histories.{In, in_back}
-use Rattle.aft_model.proofs.Ids.{same_ids}
 use Rattle.aft_model.proofs.Incarnations.{part-at}
 use Rattle.aft_model.proofs.Pins.{same_attempts}
 use Rattle.aft_model.proofs.Services.{serving}
@@ -33,15 +32,14 @@ use Rattle.aft_lines.specs.Holding.{FetchesStayOpen, ends_open_fetch, is_open_si
 use Rattle.aft_lines.specs.LineView.{ends_of}
 use Rattle.aft_lines.specs.Lines.{lines, node_numbers}
 use Rattle.aft_lines.specs.Makes.{makes, makes_at_node}
-use Rattle.aft_lines.specs.Progress.{NotBegun, Progress}
+use Rattle.aft_lines.specs.Progress.{Progress}
 use Rattle.aft_lines.specs.Steps.{Made, own_steps}
 use Rattle.aft_lines.specs.Turns.{AtDoor, AtNode, AtOffice, Turn, turns}
 use Rattle.aft_lines.specs.Views.{view_of}
 use Rattle.law_attempts.proofs.Newest.{acts_of_own}
 use Rattle.law_attempts.proofs.Standing.{same_itself}
-use Rattle.law_claims.specs.Moments.{Asking, Comes, node_entry_in, node_steps, or_not_begun, scene_of}
-use Rattle.law_claims.specs.Scenes.{AreLegal, Keeps}
-use Rattle.law_claims.proofs.Moments.{node-snoc, node_step, own_other}
+use Rattle.law_claims.specs.Moments.{Asking, Comes, node_entry_in, node_steps, or_not_begun}
+use Rattle.law_claims.proofs.Moments.{node-snoc, own_other}
 use Rattle.law_claims.proofs.Scenes.{by_itself, same_by}
 use Rattle.law_runs.specs.Runs.{Goes, asking_of, command_in, ends_in, line_among, run_steps}
 use Rattle.law_runs.proofs.Come.{Named, it_comes, named_line, turn_made, unasked_reads}
@@ -57,7 +55,7 @@ use Rattle.law_held.proofs.Fetches.{ends_acts, ends_same, node_fetches, picked_p
 use Rattle.law_held.proofs.GetLines.{gets_own}
 use Rattle.law_held.proofs.GetTurns.{DoorIf, NodeIf, door_gets, node_gets}
 use Rattle.law_held.proofs.Held.{stands_at}
-use Rattle.law_held.proofs.Lines.{Leads, leads}
+use Rattle.law_held.proofs.Lines.{leads}
 
 -- ---- commands
 

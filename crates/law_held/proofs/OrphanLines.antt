@@ -1,8 +1,8 @@
 -- The own steps of a round of orphans are its turns but for those at the office, which leave what it holds.
-use Rattle.std.proofs.Common.{◌≡◌, ℕ, Bool, true, false, ◌&&◌, ◌||◌, not, List, [], ◌∷◌, ◌++◌, ◌+◌, refl, sym, ap, subst, ◌∙◌, ◌⊎◌, inl, inr, eqb, arith, append-nil}
-use Rattle.std.specs.Prelude.{IsTrue, IsFalse, None, Option, Some, filter, if◌then◌else◌, is_none, map}
+use Rattle.std.proofs.Common.{◌≡◌, ℕ, Bool, true, false, ◌||◌, not, List, [], ◌∷◌, ◌++◌, ◌+◌, refl, sym, ap, subst, ◌∙◌, inl, inr, eqb, arith, append-nil}
+use Rattle.std.specs.Prelude.{IsTrue, None, Option, Some, filter, if◌then◌else◌, is_none}
 use Rattle.std.specs.List.{flat_map, fold, list_all, list_any}
-use Rattle.std.proofs.lemmas.Bool.{cases_Bool, eq-eqb, false≢true, ne_eqb, or_left, or_right, true≢false}
+use Rattle.std.proofs.lemmas.Bool.{false≢true, ne_eqb, or_left, or_right}
 use Rattle.std.proofs.lemmas.List.Sums.{fold-append}
 use Rattle.aft_model.specs.declared.caller.By.{By}
 use Rattle.aft_model.specs.declared.office.OfficeEntry.{OfficeEntry}
@@ -15,8 +15,7 @@ use Rattle.aft_model.proofs.Histories.{In, all_at, in_append, in_front}
 use Rattle.aft_model.proofs.Lists.{all_from, in_filter, in_map}
 use Rattle.aft_lines.specs.Advance.{advance, advanced, in_round, leads_to, moved_at_desk, told_at_desk, told_by_office}
 use Rattle.aft_lines.specs.Asked.{Asked, Ran}
-use Rattle.aft_lines.specs.CourseWords.{Ends, ends_at_office}
-use Rattle.aft_lines.specs.FinishedText.{line_of}
+use Rattle.aft_lines.specs.CourseWords.{Ends}
 use Rattle.aft_lines.specs.Holding.{held_at}
 use Rattle.aft_lines.specs.LineView.{ends_of}
 use Rattle.aft_lines.specs.Lines.{lines, node_numbers}
@@ -29,13 +28,13 @@ use Rattle.aft_lines.specs.Views.{view_of}
 use Rattle.law_claims.specs.Desk.{is_desk_row}
 use Rattle.law_claims.proofs.Desk.{desk_follows}
 use Rattle.law_runs.specs.Runs.{Goes, run_steps, without_office}
-use Rattle.law_runs.proofs.Members.{in_turns, no_office_step, turns_in}
+use Rattle.law_runs.proofs.Members.{in_turns, no_office_step}
 use Rattle.law_runs.proofs.Nodes.{rises_without}
 use Rattle.law_runs.proofs.Own.{by_line, has_come, makes_all}
 use Rattle.law_runs.proofs.Walks.{from_nowhere}
 use Rattle.law_steps.proofs.Own.{own_turns}
 use Rattle.law_steps.specs.OneList.{IsOrdinary, entries_of}
-use Rattle.law_turns.specs.Order.{give_nothing_up, is_at_office, same_list, tie_in_one_list}
+use Rattle.law_turns.specs.Order.{is_at_office, same_list}
 use Rattle.law_turns.proofs.Lists.{filter_all}
 
 -- ---- what a round holds

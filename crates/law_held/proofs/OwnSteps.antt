@@ -1,33 +1,31 @@
 -- One entry more, at the door or at a node, keeps who owns the attempts that commit or leave, and which claims were let go.
-use Rattle.std.proofs.Common.{◌≡◌, ℕ, Bool, true, false, ◌&&◌, ◌||◌, List, [], ◌∷◌, ◌++◌, refl, sym, ap, subst, ◌∙◌, ◌⊎◌, inl, inr, eqb}
-use Rattle.std.specs.Prelude.{IsTrue, IsFalse, None, Option, Some, filter}
+use Rattle.std.proofs.Common.{◌≡◌, ℕ, List, [], ◌∷◌, ◌++◌, refl, sym, ap, subst, ◌∙◌, ◌⊎◌, inl, inr}
+use Rattle.std.specs.Prelude.{IsTrue, IsFalse, Some}
 use Rattle.std.specs.Str.{bytes_eq}
-use Rattle.std.specs.List.{list_any}
-use Rattle.std.proofs.lemmas.Bool.{and_from, and_parts, cases_Bool, false≢true, or_right, true≢false}
+use Rattle.std.proofs.lemmas.Bool.{cases_Bool, false≢true, true≢false}
 use Rattle.aft_records.specs.declared.stored.Commit.{Commit}
 use Rattle.aft_model.specs.declared.caller.Attempt.{Attempt}
 use Rattle.aft_model.specs.declared.caller.By.{By}
 use Rattle.aft_model.specs.declared.door.DoorAct.{DoorAct}
-use Rattle.aft_model.specs.declared.door.DoorAct.TheVariants as doors
 use Rattle.aft_model.specs.declared.door.DoorEntry.{DoorEntry}
 use Rattle.aft_model.specs.declared.node.NodeEntry.{NodeEntry}
-use Rattle.aft_model.specs.Attempts.{AttemptState, IsCommitting, IsGone, IsInDoubt, IsLeaving, IsOpening, IsRunning, is_gone, is_leaving, is_opening}
+use Rattle.aft_model.specs.Attempts.{AttemptState, IsCommitting, IsGone, IsLeaving, IsOpening, is_gone, is_leaving, is_opening}
 use Rattle.aft_model.specs.Course.{releases}
 use Rattle.aft_model.specs.LegalNode.{LegalNode}
-use Rattle.aft_model.specs.Membership.{Incarnation, incarnation, same_incarnation}
+use Rattle.aft_model.specs.Membership.{Incarnation}
 use Rattle.aft_model.specs.NodeRules.{is_storing}
 use Rattle.aft_model.specs.NodeSights.{is_fenced, own_entries}
 use Rattle.aft_model.specs.NodeState.{node_state}
 use Rattle.aft_model.specs.ScanRun.{same_line}
 use Rattle.aft_model.specs.Stages.{Stage}
-use Rattle.aft_model.proofs.Histories.{In, any_found, any_from, in_back, in_front}
+use Rattle.aft_model.proofs.Histories.{any_found, any_from, in_back, in_front}
 use Rattle.aft_model.proofs.Lists.{filter_in, in_filter}
 use Rattle.aft_model.proofs.Sights.{same_bytes}
 use Rattle.aft_lines.specs.CourseWords.{caller_of}
 use Rattle.aft_lines.specs.Holding.{is_released_by}
 use Rattle.aft_lines.specs.Progress.{Admitted, EndsAborted, EndsCommitted, EndsLeft, FoundAborted, FoundNoRecord, FoundShort, FoundUnused, HasClaim, HasFailed, HasForgotten, HasReleased, IsNodeStored, IsRecorded, IsStoring, MustDoubt, MustEnd, MustLeave, MustRelease, Outcome, Progress, Settling}
 use Rattle.law_holders.specs.Rows.{uuid_at}
-use Rattle.law_claims.specs.Doing.{attempt_at, has_claim_at, is_doing, is_rest, is_the, names_uuid, rests}
+use Rattle.law_claims.specs.Doing.{attempt_at, has_claim_at, is_doing, is_the, names_uuid, rests}
 use Rattle.law_claims.specs.Scenes.{DoorStep, IsAtRest, IsMoved, IsShut, Keeps, NodeStep, Scene, Stands, doing, doing_in, named, named_in, puts_of, stage_of}
 use Rattle.law_claims.proofs.Fenced.{fenced_more}
 use Rattle.law_claims.proofs.Scenes.{by_itself, is_itself, moves_it, same_by, the_is}

@@ -1,19 +1,18 @@
 -- What an entry of a node makes of who owns an attempt that commits or leaves behind it.
 use Rattle.std.proofs.Common.{◌≡◌, ℕ, Bool, true, false, ◌&&◌, List, [], ◌∷◌, ◌++◌, refl, sym, ap, subst, ◌∙◌, inl, inr, eqb}
 use Rattle.std.specs.Prelude.{IsTrue, IsFalse, None, Option, Some, if◌then◌else◌, nat_le}
-use Rattle.std.proofs.lemmas.Bool.{and_parts, cases_Bool, eq-eqb, eqb-true, false≢true, false_from_ne_true, true≢false}
+use Rattle.std.proofs.lemmas.Bool.{and_parts, cases_Bool, eq-eqb, eqb-true, false≢true, true≢false}
 use Rattle.std.proofs.lemmas.List.Sums.{fold-append}
-use Rattle.aft_records.specs.declared.stored.Commit.{Commit}
 use Rattle.aft_model.specs.declared.caller.Attempt.{Attempt}
 use Rattle.aft_model.specs.declared.caller.By.{By}
 use Rattle.aft_model.specs.declared.node.NodeAct.{NodeAct}
 use Rattle.aft_model.specs.declared.node.NodeAct.TheVariants as acts
 use Rattle.aft_model.specs.declared.node.NodeEntry.{NodeEntry}
 use Rattle.aft_model.specs.declared.reply.Reply.{Reply}
-use Rattle.aft_model.specs.Attempts.{AttemptState, IsCommitting, IsGone, IsInDoubt, IsLeaving, IsOpening, IsRunning, attempt_after, attempt_state, doubted, is_committing, is_in_doubt, is_leaving, is_running, owner, owner_after, same_attempt, tried_again, uuid_after, uuid_of}
+use Rattle.aft_model.specs.Attempts.{AttemptState, IsCommitting, IsGone, IsInDoubt, IsLeaving, IsOpening, IsRunning, attempt_after, attempt_state, doubted, is_committing, is_in_doubt, is_running, owner, owner_after, same_attempt, tried_again, uuid_after, uuid_of}
 use Rattle.aft_model.specs.LegalNode.{LegalNode, front, may_be_done, may_follow_at, may_serve}
-use Rattle.aft_model.specs.NodeRules.{is_doubt, is_own_end, may_leave, may_start}
-use Rattle.aft_model.specs.NodeState.{IsBooting, IsDown, IsServing, NodeState, Service, extended, goes_on, in_service, node_state, part, service_in, state_after, stopped}
+use Rattle.aft_model.specs.NodeRules.{is_doubt, may_leave, may_start}
+use Rattle.aft_model.specs.NodeState.{IsBooting, IsServing, NodeState, Service, extended, goes_on, in_service, node_state, part, service_in, state_after, stopped}
 use Rattle.aft_model.specs.Replies.{is_silent}
 use Rattle.aft_model.proofs.Histories.{each_after_snoc}
 use Rattle.aft_model.proofs.Pins.{attempt_state-snoc, same_attempts, start_runs}

@@ -21,13 +21,13 @@ use Rattle.aft_model.specs.Membership.{Incarnation, incarnation, same_incarnatio
 use Rattle.aft_model.specs.NodeState.{node_state, part}
 use Rattle.aft_model.specs.Readings.{marker_name, record_name}
 use Rattle.aft_model.specs.Stages.{is_acknowledged}
-use Rattle.aft_lines.specs.Advance.{advance, advance_claim, advance_finish, allows, behind_failure, behind_marker, behind_settling, behind_unused, begun_with, claimed_by, closed_by, doubted_by, finished_with, forgotten_by, freed_by, got_by, if_nothing, if_so, is_stored_in, left_alone, looked_by, noted_at_node, or_at, put_by, released_by, settled_with, shut_out_by, stored_by, tells_outcome}
+use Rattle.aft_lines.specs.Advance.{advance, advance_claim, advance_finish, allows, behind_failure, behind_marker, behind_settling, behind_unused, begun_with, claimed_by, closed_by, doubted_by, finished_with, forgotten_by, freed_by, got_by, if_nothing, if_so, is_stored_in, left_alone, looked_by, noted_at_node, or_at, put_by, released_by, settled_with, shut_out_by, tells_outcome}
 use Rattle.aft_lines.specs.BeginCourse.{Beginning, begins_running, gets_own, gives_back}
 use Rattle.aft_lines.specs.CommitCourse.{Storing, doubts, gets_record, is_release_of, is_version_of, is_written_as, leaves, puts_own, takes_away}
 use Rattle.aft_lines.specs.CourseWords.{Ends, answers_down, any_answer, caller_of, ends_shut_out, finds_nothing, finds_record, tells_down, tells_no_memory, tells_refused, tells_unclaimed}
 use Rattle.aft_lines.specs.ForgetCourse.{finds_short}
 use Rattle.aft_lines.specs.Progress.{Admitted, AnyReason, EndsAborted, EndsCommitted, EndsLeft, FoundAborted, FoundNoRecord, FoundShort, FoundUnused, HasClaim, HasFailed, HasForgotten, HasReleased, IsNodeStored, IsOver, IsRecorded, IsStoring, MustDoubt, MustEnd, MustLeave, MustRelease, NoRoom, NotBegun, Outcome, Progress, Reason, Refusal, Settling, Stopped}
-use Rattle.aft_lines.specs.Turns.{AtDoor, AtNode, AtOffice, Turn}
+use Rattle.aft_lines.specs.Turns.{AtDoor, AtNode, Turn}
 use Rattle.law_holders.specs.Rows.{is_of_attempt, uuid_at}
 
 -- whether a turn is the release of a UUID by an incarnation

@@ -2,3 +2,5 @@ pub mod Owning
 pub mod Fetching
 pub mod Desk
 pub mod Copies
+pub mod Twice
+pub mod Standing

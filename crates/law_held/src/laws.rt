@@ -13,6 +13,8 @@ ghost use Rattle.law_held.specs.Copies.{MarksBesideNone};
 ghost use Rattle.law_held.specs.Desk.{LinesDiffer, desk_of};
 ghost use Rattle.law_held.specs.Fetching.{KeepsFetches, fetch_of};
 ghost use Rattle.law_held.specs.Owning.{Owns};
+ghost use Rattle.law_held.specs.Standing.{ClaimsAreNew, GetsStand, LinesStand, RoundsStand, TurnsFind};
+ghost use Rattle.law_held.specs.Twice.{twice, twice_ran};
 
 /// At each moment of a run so far, and of a legal trace, the line that moves an attempt which commits or leaves owns it, and
 /// a line that has only to end its attempt has let its claim go, unless the attempt's incarnation was fenced.
@@ -61,4 +63,34 @@ pub fn desk_is_held()
 pub fn marks_stand_alone()
     ensures so_far { (asked : Asked) (ran : Ran) → RunsSoFar asked ran → MarksBesideNone ran.trace.door }
     ensures legal { (asked : Asked) (ran : Ran) → LegalTrace asked ran → MarksBesideNone ran.trace.door }
+{}
+
+/// A run so far whose script has one line twice, a round of orphans that holds a UUID, is none in which the office holds just
+/// what lines hold for it.
+pub fn one_line_twice()
+    ensures runs { RunsSoFar twice twice_ran }
+    ensures unheld { DeskHeld twice twice_ran → ⊥ }
+{}
+
+/// In a run so far, and in a legal trace, whoever claims a UUID isn't its holder already.
+pub fn claims_are_new()
+    ensures so_far { (asked : Asked) (ran : Ran) → RunsSoFar asked ran → ClaimsAreNew ran.trace.door }
+    ensures legal { (asked : Asked) (ran : Ran) → LegalTrace asked ran → ClaimsAreNew ran.trace.door }
+{}
+
+/// Where the lines of a run so far differ, each stands in the end as it has come. While its attempt's incarnation is up, that
+/// of a begin, a forget, a commit or an abort does what the line's position asks, is of its UUID, and holds that just where the
+/// line has claimed it and not let it go. The attempt of a get that fetches runs and has read the version, while its node
+/// serves its incarnation. And the office holds what a round of orphans holds, by the place of the round's claim.
+pub fn lines_stand()
+    ensures movers { (asked : Asked) (ran : Ran) → RunsSoFar asked ran → LinesDiffer asked → LinesStand asked ran }
+    ensures gets { (asked : Asked) (ran : Ran) → RunsSoFar asked ran → LinesDiffer asked → GetsStand asked ran }
+    ensures rounds { (asked : Asked) (ran : Ran) → RunsSoFar asked ran → LinesDiffer asked → RoundsStand asked ran }
+{}
+
+/// In a run so far, and in a legal trace, of lines that differ, each turn at a node of a begin, a forget, a commit or an abort
+/// finds its attempt as the line left it, unless it has seen that the attempt's incarnation was fenced.
+pub fn turns_find()
+    ensures so_far { (asked : Asked) (ran : Ran) → RunsSoFar asked ran → LinesDiffer asked → TurnsFind asked ran }
+    ensures legal { (asked : Asked) (ran : Ran) → LegalTrace asked ran → LinesDiffer asked → TurnsFind asked ran }
 {}

@@ -49,7 +49,7 @@ none_there number (AtDoor place act) is = refl
 none_there number (AtNode node before entry) is = ap (λ (b : Bool). if b then entry ∷ [] else []) is
 none_there number (AtOffice before entry) is = refl
 
-filtered_steps : (number : ℕ) (xs : List Made) → node_steps number (filter (λ (m : Made). is_at_node number m.turn) xs) ≡ node_steps number xs
+pub filtered_steps : (number : ℕ) (xs : List Made) → node_steps number (filter (λ (m : Made). is_at_node number m.turn) xs) ≡ node_steps number xs
 filtered_steps number [] = refl
 filtered_steps number (x ∷ xs) = cases (filtered_steps number xs) (is_at_node number x.turn) refl
   where
