@@ -17,3 +17,4 @@ pub mod DeskHeld
 pub mod Copies
 pub mod Stand
 pub mod StandOthers
+pub mod Numbered

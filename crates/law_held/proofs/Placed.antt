@@ -21,7 +21,7 @@ each_in : {A : Type 0} (rule : List A → A → Bool) (before xs : List A) → (
 each_in rule before [] each = refl
 each_in rule before (x ∷ xs) each = and_from (rule before x) (each_after rule (before ++ x ∷ []) xs) (each before x (inl refl)) (each_in rule (before ++ x ∷ []) xs (λ h y there. each h y (inr there)))
 
-each_joined : {A : Type 0} (rule : List A → A → Bool) (before xs ys : List A) → IsTrue (each_after rule before xs) → IsTrue (each_after rule (before ++ xs) ys) → IsTrue (each_after rule before (xs ++ ys))
+pub each_joined : {A : Type 0} (rule : List A → A → Bool) (before xs ys : List A) → IsTrue (each_after rule before xs) → IsTrue (each_after rule (before ++ xs) ys) → IsTrue (each_after rule before (xs ++ ys))
 each_joined rule before [] ys first second = subst (λ l. IsTrue (each_after rule l ys)) (append-nil before) second
 each_joined rule before (x ∷ xs) ys first second =
     let parts = and_parts (rule before x) (each_after rule (before ++ x ∷ []) xs) first in

@@ -1,6 +1,6 @@
 -- The desk of the office at a moment of a run: what each round of orphans holds.
-use Rattle.std.specs.Prelude.{Bool, IsTrue, List, None, Option, Some, [], not, ℕ}
-use Rattle.std.specs.List.{list_any}
+use Rattle.std.specs.Prelude.{Bool, IsTrue, List, None, Option, Some, [], not, ℕ, ◌&&◌, ◌==◌}
+use Rattle.std.specs.List.{list_all, list_any}
 use Rattle.aft_model.specs.declared.caller.By.{By}
 use Rattle.aft_model.specs.declared.script.Command.{Command}
 use Rattle.aft_model.specs.declared.script.Command.TheVariants.{Orphans}
@@ -12,6 +12,7 @@ use Rattle.aft_lines.specs.Asked.{Asked}
 use Rattle.aft_lines.specs.CourseWords.{Ends}
 use Rattle.aft_lines.specs.FinishedText.{line_of}
 use Rattle.aft_lines.specs.Holding.{held_at}
+use Rattle.aft_lines.specs.LegalTrace.{is_numbered_behind}
 use Rattle.aft_lines.specs.Lines.{lines}
 use Rattle.aft_lines.specs.Progress.{AtDesk}
 use Rattle.aft_lines.specs.Steps.{Made, own_steps}
@@ -34,3 +35,7 @@ is_another before line = not (list_any (λ other. same_line (line_of other) (lin
 -- whether no two lines of a run are the same
 abbrev pub LinesDiffer : Asked → Type 0
 LinesDiffer asked = IsTrue (each_after is_another [] (lines asked))
+
+-- whether the lines of a script are numbered so, each behind those before it, and none of them is of client 0
+abbrev pub is_script : List Line → Bool
+is_script lines = each_after is_numbered_behind [] lines && list_all (λ line. not (line.client == 0)) lines

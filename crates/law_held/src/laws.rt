@@ -1,16 +1,16 @@
 //! Laws of claims over whole runs, as calls that do nothing and promise them.
 
-ghost use Rattle.std.specs.Prelude.{◌≡◌, ◌++◌, List, [], ℕ};
+ghost use Rattle.std.specs.Prelude.{◌≡◌, ◌++◌, IsTrue, List, [], ℕ};
 ghost use Rattle.aft_lines.specs.Asked.{Asked, Ran};
 ghost use Rattle.aft_lines.specs.Holding.{ClaimsHeld, DeskHeld, FetchesStayOpen};
-ghost use Rattle.aft_lines.specs.LegalTrace.{LegalTrace};
+ghost use Rattle.aft_lines.specs.LegalTrace.{LegalTrace, are_asks};
 ghost use Rattle.aft_lines.specs.RunsSoFar.{RunsSoFar};
 ghost use Rattle.aft_lines.specs.Steps.{Made, door_steps};
 ghost use Rattle.law_claims.specs.Desk.{LiesAtDesk};
 ghost use Rattle.law_claims.specs.Moments.{node_steps, scene_of};
 ghost use Rattle.law_runs.specs.Runs.{asking_of, run_steps};
 ghost use Rattle.law_held.specs.Copies.{MarksBesideNone};
-ghost use Rattle.law_held.specs.Desk.{LinesDiffer, desk_of};
+ghost use Rattle.law_held.specs.Desk.{LinesDiffer, desk_of, is_script};
 ghost use Rattle.law_held.specs.Fetching.{KeepsFetches, fetch_of};
 ghost use Rattle.law_held.specs.Owning.{Owns};
 ghost use Rattle.law_held.specs.Standing.{ClaimsAreNew, GetsStand, LinesStand, RoundsStand, TurnsFind};
@@ -63,6 +63,12 @@ pub fn desk_is_held()
 pub fn marks_stand_alone()
     ensures so_far { (asked : Asked) (ran : Ran) → RunsSoFar asked ran → MarksBesideNone ran.trace.door }
     ensures legal { (asked : Asked) (ran : Ran) → LegalTrace asked ran → MarksBesideNone ran.trace.door }
+{}
+
+/// The lines of a run differ where those of its script are of clients and each is numbered behind those before it, as in every
+/// script that was read, and a session's lines are such as it may ask.
+pub fn numbered_lines_differ()
+    ensures { (asked : Asked) → IsTrue (is_script asked.script.lines) → IsTrue (are_asks asked) → LinesDiffer asked }
 {}
 
 /// A run so far whose script has one line twice, a round of orphans that holds a UUID, is none in which the office holds just
