@@ -1,39 +1,29 @@
 -- What the tests know of the door's history, by what they did.
-use Rattle.std.proofs.Common.{◌≡◌, ℕ, Bool, true, ◌||◌, ◌&&◌, List, [], ◌∷◌, ◌++◌, refl, sym, ap, subst, ◌∙◌, ◌⊎◌, inl, inr, ◌+◌, length, drop, suc, arith, append_assoc, append-nil}
-use Rattle.std.specs.Prelude.{IsTrue, Ok, Result, Some, None}
-use Rattle.std.specs.List.{flat_map, list_all, list_any}
+use Rattle.std.proofs.Common.{◌≡◌, ℕ, Bool, true, ◌&&◌, List, [], ◌∷◌, ◌++◌, refl, sym, ap, subst, ◌∙◌, inl, inr, ◌+◌, length, drop, suc, arith, append_assoc, append-nil}
+use Rattle.std.specs.Prelude.{IsTrue}
+use Rattle.std.specs.List.{list_any}
 use Rattle.std.specs.Str.{bytes_eq}
-use Rattle.std.specs.Cmp.Lexicographic.{pointwise}
 use Rattle.std.proofs.lemmas.Bool.{and_from, and_parts, false≢true, or_cases, or_left, or_right}
-use Rattle.std.proofs.lemmas.List.Concat.{flat_map-append}
 use Rattle.std.proofs.Math.Seq.{drop-append-add}
-use Rattle.aft_id.specs.TxnId.{id_lt, same_id}
+use Rattle.aft_id.specs.TxnId.{same_id}
 use Rattle.aft_id.specs.declared.txn_id.TxnId.{TxnId}
-use Rattle.aft_keeper.specs.declared.keeper.KeeperAnswer.TheVariants.{Absent, Done, Found}
-use Rattle.aft_keeper.specs.declared.keeper.KeeperCall.TheVariants.{Delete, Get, Put}
-use Rattle.aft_keeper.specs.declared.keeper.Pair.{Pair}
+use Rattle.aft_keeper.specs.declared.keeper.KeeperAnswer.TheVariants.{Absent, Done}
+use Rattle.aft_keeper.specs.declared.keeper.KeeperCall.TheVariants.{Get, Put}
 use Rattle.aft_records.specs.declared.stored.Commit.{Commit}
-use Rattle.aft_records.specs.declared.stored.Marker.{Marker}
-use Rattle.aft_records.specs.declared.stored.Marker.TheVariants.{Done as ShortOf, Full}
-use Rattle.aft_records.specs.declared.stored.Record.{Record}
 use Rattle.aft_records.specs.declared.stored.Version.{Version}
-use Rattle.aft_records.specs.Commits.{has_uuid, is_among, is_listed, same_commit}
-use Rattle.aft_records.specs.Limits.{IsTime}
-use Rattle.aft_records.specs.Reading.{commit_of, marker_of, version_of}
-use Rattle.aft_records.specs.Rows.{marker_row, record_row, version_row}
-use Rattle.aft_records.specs.Stored.{IsMarker, IsRecord, IsVersion, IsWritableCommit, marker_time}
-use Rattle.aft_records.specs.Superseded.{is_superseded, wrote}
-use Rattle.aft_records.proofs.Written.{commit_of_record_written, marker_written, timely_is, version_written}
+use Rattle.aft_records.specs.Reading.{version_of}
+use Rattle.aft_records.specs.Rows.{version_row}
+use Rattle.aft_records.specs.Stored.{IsVersion}
+use Rattle.aft_records.proofs.Written.{timely_is, version_written}
 use Rattle.aft_model.specs.declared.caller.Caller.{Caller}
 use Rattle.aft_model.specs.declared.door.DoorEntry.{DoorEntry}
-use Rattle.aft_model.specs.Committed.{committed, committed_by, done_by, marked, marked_by, retired_by, shorts_in}
-use Rattle.aft_model.specs.DoorKnowledge.{claims, deletes, finds, finds_absent, finds_other, found_unused, has_deleted, has_stored, knows_marked, knows_orphan, knows_record_gone, knows_short_of, knows_stored, knows_superseded, knows_unused, knows_versions_gone, marked_then, shows_gone, stores_version}
+use Rattle.aft_model.specs.DoorKnowledge.{claims, finds_absent, finds_other, has_stored, knows_orphan, knows_stored, knows_unused, stores_version}
 use Rattle.aft_model.specs.History.{followed}
 use Rattle.aft_model.specs.Membership.{Incarnation, the_office}
-use Rattle.aft_model.specs.Readings.{id_of_marker, marker_name, markers_in, record_name, records_in, version_name, versions_in}
-use Rattle.aft_model.proofs.Growth.{Grows, any_grows, any_implied, committed_grows, marked_grows}
+use Rattle.aft_model.specs.Readings.{marker_name, record_name, version_name, versions_in}
+use Rattle.aft_model.proofs.Growth.{Grows}
 use Rattle.aft_model.proofs.Histories.{any_from, in_back}
-use Rattle.aft_model.proofs.Ids.{same_commits, same_id-refl}
+use Rattle.aft_model.proofs.Ids.{same_id-refl}
 use Rattle.aft_model.proofs.OneCommit.{same_itself}
 use Rattle.aft_model.proofs.Sights.{bytes_eq-refl}
 use Rattle.aft_door.specs.Entries.{called, claimed, who_calls}
