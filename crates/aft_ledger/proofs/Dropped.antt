@@ -35,12 +35,12 @@ filter-same : (f g : Commit → Bool) (xs : List Commit) → ((x : Commit) → f
 filter-same f g [] same = refl
 filter-same f g (x ∷ xs) same = ap (λ t. if t then x ∷ filter f xs else filter f xs) (same x) ∙ ap (λ (rest : List Commit). if g x then x ∷ rest else rest) (filter-same f g xs same)
 
-filter-twice : (f g : Commit → Bool) (xs : List Commit) → filter g (filter f xs) ≡ filter (λ x. f x && g x) xs
+pub filter-twice : {A : Type 0} (f g : A → Bool) (xs : List A) → filter g (filter f xs) ≡ filter (λ x. f x && g x) xs
 filter-twice f g [] = refl
-filter-twice f g (x ∷ xs) = cases (f x) (filter-twice f g xs)
+filter-twice {A} f g (x ∷ xs) = cases (f x) (filter-twice f g xs)
   where
     cases : (t : Bool) → filter g (filter f xs) ≡ filter (λ y. f y && g y) xs → filter g (if t then x ∷ filter f xs else filter f xs) ≡ (if t && g x then x ∷ filter (λ y. f y && g y) xs else filter (λ y. f y && g y) xs)
-    cases true rest = ap (λ (l : List Commit). if g x then x ∷ l else l) rest
+    cases true rest = ap (λ (l : List A). if g x then x ∷ l else l) rest
     cases false rest = rest
 
 listed-more : (id : TxnId) (ids : List TxnId) (last : TxnId) → is_listed id (ids ++ last ∷ []) ≡ (is_listed id ids || same_id id last)

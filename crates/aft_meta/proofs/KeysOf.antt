@@ -134,7 +134,7 @@ any_placed test (d ∷ known) c = cases (id_lt c.id d.id) (any_placed test known
     cases true rest = or_turned (test c) (test d || list_any test known)
     cases false rest = ap (λ b. test d || b) rest ∙ or_assoc (test d) (list_any test known) (test c)
 
-any_gone : (id : TxnId) (test : Commit → Bool) (known : List Commit) → list_any (λ (c : Commit). same_id id c.id && test c) (filter (λ (c : Commit). not (same_id c.id id)) known) ≡ false
+pub any_gone : (id : TxnId) (test : Commit → Bool) (known : List Commit) → list_any (λ (c : Commit). same_id id c.id && test c) (filter (λ (c : Commit). not (same_id c.id id)) known) ≡ false
 any_gone id test [] = refl
 any_gone id test (c ∷ known) = cases (same_id c.id id) refl (any_gone id test known)
   where
@@ -147,7 +147,7 @@ any_gone id test (c ∷ known) = cases (same_id c.id id) refl (any_gone id test 
         turned true is apart = absurd (true≢false (sym (subst (λ (i : TxnId). IsTrue (same_id i id)) (same_ids id c.id is) (same_id-refl id)) ∙ apart))
         turned false is apart = is
 
-any_stays : (id v : TxnId) (test : Commit → Bool) (known : List Commit) → IsFalse (same_id v id) → list_any (λ (c : Commit). same_id v c.id && test c) (filter (λ (c : Commit). not (same_id c.id id)) known) ≡ list_any (λ (c : Commit). same_id v c.id && test c) known
+pub any_stays : (id v : TxnId) (test : Commit → Bool) (known : List Commit) → IsFalse (same_id v id) → list_any (λ (c : Commit). same_id v c.id && test c) (filter (λ (c : Commit). not (same_id c.id id)) known) ≡ list_any (λ (c : Commit). same_id v c.id && test c) known
 any_stays id v test [] other = refl
 any_stays id v test (c ∷ known) other = cases (same_id c.id id) refl (any_stays id v test known other)
   where

@@ -5,5 +5,7 @@ pub mod KeysOf
 pub mod Entries
 pub mod Counts
 pub mod Learning
+pub mod Superseding
 pub mod Dropping
 pub mod Asked
+pub mod Noting

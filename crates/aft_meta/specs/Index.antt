@@ -11,6 +11,7 @@ use Rattle.aft_id.specs.declared.txn_id.TxnId.{TxnId}
 use Rattle.aft_records.specs.Commits.{greatest, ids_ascend, is_listed, latest}
 use Rattle.aft_records.specs.Superseded.{wrote}
 use Rattle.aft_records.specs.declared.stored.Commit.{Commit}
+use Rattle.aft_meta.specs.KnownCommits.{supersedes_id}
 use Rattle.aft_meta.specs.declared.known.KnownCommit.{KnownCommit}
 
 -- ---- who wrote a key
@@ -79,3 +80,18 @@ pub record IsIndex (entries : List (TxnId × KnownCommit)) (writers : List (List
   pub in_order : IsTrue (ids_ascend (commits_of entries))
   pub written : (key : List ℕ) (id : TxnId) → stands_under key id writers ≡ is_version key id (commits_of entries)
   pub counted : (id : TxnId) → IsCounted (commits_of entries) id (known_at id entries)
+
+-- ---- what is superseded
+
+-- whether an id is the newest under one of these keys
+abbrev pub is_newest_of : List (List ℕ) → TxnId → List (List ℕ × List TxnId) → Bool
+is_newest_of keys id writers = list_any (λ key. is_some_id id (greatest (ids_under key writers))) keys
+
+-- these are the ids of the known commits that the known ones supersede
+abbrev pub IsNoted : List TxnId → List Commit → Type 0
+IsNoted ids known = (id : TxnId) → is_listed id ids ≡ supersedes_id id known
+
+-- the index is right, and so are the ids of what is superseded
+pub record IsMeta (entries : List (TxnId × KnownCommit)) (writers : List (List ℕ × List TxnId)) (superseded : List TxnId) : Type 0 where
+  pub index : IsIndex entries writers
+  pub noted : IsNoted superseded (commits_of entries)

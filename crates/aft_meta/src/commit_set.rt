@@ -17,7 +17,7 @@ pub enum Learnt {
 
 /// Known commits, which contracts see in the order of their ids, each id once.
 pub trait CommitSet {
-    ghost use Rattle.std.specs.Prelude.{◌≡◌, [], ◌∷◌, List, IsTrue, IfOk, OnOk, OnErr, option_copied};
+    ghost use Rattle.std.specs.Prelude.{◌≡◌, [], ◌∷◌, List, IsTrue, IfOk, OnOk, OnErr, filter, option_copied};
     ghost use Rattle.aft_records.specs.Commits.{ids_ascend, ids_of, latest, versions, with_commit, without_ids};
     ghost use Rattle.aft_records.specs.Superseded.{is_superseded};
     ghost use Rattle.aft_records.specs.declared.stored.Commit.{Commit};
@@ -65,6 +65,11 @@ pub trait CommitSet {
     /// All known ids, ascending.
     fn ids(&self) -> Result<List<TxnId>, Memory>
         ensures ids { IfOk result (λ ids. ids ≡ ids_of (known self.now)) }
+        ensures in_order { IsTrue (ids_ascend (known self.now)) };
+
+    /// The known ids whose commits are covered, ascending. Looks at no other commit.
+    fn superseded_ids(&self) -> Result<List<TxnId>, Memory>
+        ensures ids { IfOk result (λ ids. ids ≡ filter (λ id. supersedes_id id (known self.now)) (ids_of (known self.now))) }
         ensures in_order { IsTrue (ids_ascend (known self.now)) };
 
     /// Drops the commit of an id that is superseded. Takes no memory.

@@ -8,6 +8,7 @@ mod commit_set;
 mod ids;
 mod known;
 mod meta;
+mod noted;
 mod plain_meta;
 #[cfg(test)]
 mod tests;

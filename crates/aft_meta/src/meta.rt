@@ -9,16 +9,17 @@ ghost use Rattle.aft_meta.specs.Index.{IsIndex, commits_of, exceeds, ids_under, 
 ghost use Rattle.aft_meta.specs.KnownCommits.{supersedes_id};
 
 use crate::commit_set::{CommitSet, Learnt};
-use crate::known::KnownCommit;
-use crate::writers::{Writers, add_under, newest, newest_below, overtaken, take_under};
+use crate::ids::Ids;
+use crate::known::{Commits, KnownCommit};
+use crate::noted::{forget_newest, note_superseded};
+use crate::writers::{
+    Writers, add_under, is_exceeded, newest, newest_below, overtaken, take_under,
+};
 use aft_id::{List, Memory, TxnId};
 use aft_records::{Commit, Key, Keys};
 use std::alloc::{AllocError, Global};
 use std::collections::BTreeMap;
 use std::marker::Model;
-
-/// The known commits by their ids.
-type Commits = BTreeMap<TxnId, KnownCommit>;
 
 /// Known commits as an index: by id, and by the keys that they wrote. Each has a count of the keys of which it is the
 /// newest known writer, so that it is superseded where that is 0.
@@ -27,18 +28,20 @@ pub struct Meta {
     alloc: Global,
     commits: Commits,
     writers: Writers,
+    /// The ids of those that the others supersede.
+    superseded: Ids,
 }
 
 impl Model for Meta {
     ghost use Rattle.std.specs.Prelude as prelude;
-    ghost use Rattle.aft_meta.specs.Index.{IsIndex, commits_of};
+    ghost use Rattle.aft_meta.specs.Index.{IsMeta, commits_of};
     ghost use Rattle.aft_records.specs.declared.stored.Commit.{Commit};
 
     ghost Value = { prelude.List Commit };
 
     ghost view = { λ set. commits_of set.commits.entries };
 
-    ghost invariant = { λ set. IsIndex set.commits.entries set.writers.entries };
+    ghost invariant = { λ set. IsMeta set.commits.entries set.writers.entries set.superseded };
 }
 
 impl CommitSet for Meta {
@@ -49,6 +52,7 @@ impl CommitSet for Meta {
             alloc,
             commits: BTreeMap::new(alloc),
             writers: BTreeMap::new(alloc),
+            superseded: Ids::new(alloc),
         }
     }
 
@@ -59,8 +63,14 @@ impl CommitSet for Meta {
         if is_covered(&self.writers, commit) {
             return Ok(Learnt::Superseded);
         }
-        take_in(&mut self.commits, &mut self.writers, self.alloc, commit)?;
-        Ok(Learnt::Taken)
+        note_superseded(&mut self.superseded, &self.commits, &self.writers, commit)?;
+        match take_in(&mut self.commits, &mut self.writers, self.alloc, commit) {
+            Ok(()) => Ok(Learnt::Taken),
+            Err(Memory) => {
+                forget_newest(&mut self.superseded, &self.writers, commit.keys.list());
+                Err(Memory)
+            }
+        }
     }
 
     fn versions(&self, key: &Key) -> Result<List<TxnId>, Memory> {
@@ -100,8 +110,13 @@ impl CommitSet for Meta {
         Ok(List::from_vec(ids_of(self.alloc, &self.commits)?))
     }
 
+    fn superseded_ids(&self) -> Result<List<TxnId>, Memory> {
+        Ok(List::from_vec(self.superseded.list(self.alloc)?))
+    }
+
     fn remove(&mut self, id: TxnId) {
         take_out(&mut self.commits, &mut self.writers, &id);
+        self.superseded.take(&id);
     }
 }
 
@@ -110,16 +125,6 @@ fn ids_of(alloc: Global, commits: &Commits) -> Result<Vec<TxnId>, AllocError>
     ensures { IfOk result (λ ids. ids.items ≡ keys_of commits.now.entries) }
 {
     commits.keys().copied().collect(alloc)
-}
-
-/// Whether a key has a known writer above an id.
-fn is_exceeded(writers: &Writers, key: &Key, id: &TxnId) -> bool
-    ensures { result ≡ exceeds id.now (greatest (ids_under key.now writers.now.entries)) }
-{
-    match newest(writers, key) {
-        Some(greatest) => id.is_before(&greatest),
-        None => false,
-    }
 }
 
 /// Whether each key of a commit has a known writer above it.

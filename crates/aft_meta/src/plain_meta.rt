@@ -1,13 +1,14 @@
 //! Known commits as a list.
 
-ghost use Rattle.std.specs.Prelude.{◌≡◌, ◌&&◌, [], ◌∷◌, IfOk, OnOk, OnErr, option_copied};
+ghost use Rattle.std.specs.Prelude.{◌≡◌, ◌&&◌, [], ◌∷◌, IfOk, OnOk, OnErr, filter, option_copied};
 ghost use Rattle.std.specs.List.{list_any, position, position_or_len};
 ghost use Rattle.aft_id.specs.TxnId.{id_lt};
 ghost use Rattle.aft_records.specs.Commits.{has_id, greatest, ids_of, later, versions, with_id_order, without_ids};
 ghost use Rattle.aft_records.specs.Superseded.{is_superseded, wrote};
-ghost use Rattle.aft_meta.specs.KnownCommits.{keys_at, latest_below};
+ghost use Rattle.aft_meta.specs.KnownCommits.{keys_at, latest_below, supersedes_id};
 
 use crate::commit_set::{CommitSet, Learnt};
+use crate::known::wrote;
 use aft_id::{List, Memory, TxnId};
 use aft_records::{Commit, Key, Keys};
 use std::alloc::{AllocError, Global};
@@ -76,8 +77,7 @@ impl CommitSet for PlainMeta {
     }
 
     fn superseded(&self, id: TxnId) -> bool {
-        let known = self.commits.as_slice();
-        known.iter().any(|c| id == c.id && is_covered(known, c))
+        is_superseded(self.commits.as_slice(), &id)
     }
 
     fn ids(&self) -> Result<List<TxnId>, Memory> {
@@ -85,16 +85,14 @@ impl CommitSet for PlainMeta {
         Ok(List::from_vec(ids))
     }
 
+    fn superseded_ids(&self) -> Result<List<TxnId>, Memory> {
+        let ids = superseded_ids(self.alloc, self.commits.as_slice())?;
+        Ok(List::from_vec(ids))
+    }
+
     fn remove(&mut self, id: TxnId) {
         take_out(&mut self.commits, &id);
     }
-}
-
-/// Whether a commit wrote a key.
-fn wrote(commit: &Commit, key: &Key) -> bool
-    ensures { result ≡ wrote key.now commit.now }
-{
-    commit.keys.list().iter().any(|other| *key == *other)
 }
 
 /// Whether a commit of an id is among these.
@@ -120,6 +118,15 @@ fn is_covered(commits: &[Commit], commit: &Commit) -> bool
         .list()
         .iter()
         .all(|key| is_overwritten(commits, key, &commit.id))
+}
+
+/// Whether a commit of an id is among these, and they supersede it.
+fn is_superseded(commits: &[Commit], id: &TxnId) -> bool
+    ensures { result ≡ supersedes_id id.now commits.now }
+{
+    commits
+        .iter()
+        .any(|c| *id == c.id && is_covered(commits, c))
 }
 
 /// The keys that the commit of an id wrote.
@@ -150,6 +157,17 @@ fn ids_of(alloc: Global, commits: &[Commit]) -> Result<Vec<TxnId>, AllocError>
     ensures { IfOk result (λ ids. ids.items ≡ ids_of commits.now) }
 {
     commits.iter().map(|c| c.id).collect(alloc)
+}
+
+/// The ids of the commits that these supersede.
+fn superseded_ids(alloc: Global, commits: &[Commit]) -> Result<Vec<TxnId>, AllocError>
+    ensures { IfOk result (λ ids. ids.items ≡ filter (λ id. supersedes_id id commits.now) (ids_of commits.now)) }
+{
+    commits
+        .iter()
+        .map(|c| c.id)
+        .filter(|id| is_superseded(commits, id))
+        .collect(alloc)
 }
 
 /// Puts a commit in its place. Where memory runs out nothing changes.

@@ -76,6 +76,13 @@ fn has_ids<M: CommitSet>(rt: &impl Abort, set: &M, want: &[TxnId]) -> Result<(),
     Ok(())
 }
 
+/// Looks at the ids of what is superseded.
+fn has_superseded<M: CommitSet>(rt: &impl Abort, set: &M, want: &[TxnId]) -> Result<(), Fail> {
+    let ids = set.superseded_ids()?;
+    assert_eq!(rt; ids.as_slice(), want);
+    Ok(())
+}
+
 /// The second commit writes one key of the first anew, and the third the other.
 fn counts<M: CommitSet>(rt: &impl Abort, alloc: Global, set: &mut M) -> Result<(), Fail> {
     let (first, second, third) = (id_of(1, 1), id_of(2, 2), id_of(3, 3));
@@ -83,9 +90,10 @@ fn counts<M: CommitSet>(rt: &impl Abort, alloc: Global, set: &mut M) -> Result<(
     assert_eq!(rt; learns(alloc, set, first, &["x", "y"])?, Learnt::Taken);
     assert_eq!(rt; learns(alloc, set, second, &["x"])?, Learnt::Taken);
     assert!(rt; !set.superseded(first));
+    has_superseded(rt, set, &[])?;
     assert_eq!(rt; learns(alloc, set, third, &["y"])?, Learnt::Taken);
     assert!(rt; set.superseded(first) && !set.superseded(second) && !set.superseded(third));
-    Ok(())
+    has_superseded(rt, set, &[first])
 }
 
 /// What the three commits are found as.
@@ -106,6 +114,7 @@ fn drops<M: CommitSet>(rt: &impl Abort, alloc: Global, set: &mut M) -> Result<()
     if set.superseded(first) {
         set.remove(first);
     }
+    has_superseded(rt, set, &[])?;
     has_versions(rt, alloc, set, "x", &[second])?;
     assert!(rt; set.keys_of(first).is_none() && !set.superseded(first));
     assert!(rt; covers(alloc, set, first, &["x", "y"])?);

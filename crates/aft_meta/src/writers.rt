@@ -9,7 +9,7 @@ ghost use Rattle.std.specs.Str.{bytes_eq};
 ghost use Rattle.aft_id.specs.TxnId.{id_lt, same_id};
 ghost use Rattle.aft_id.specs.declared.txn_id.TxnId.{TxnId};
 ghost use Rattle.aft_records.specs.Commits.{greatest};
-ghost use Rattle.aft_meta.specs.Index.{ids_under, overtaken_by, stands_under};
+ghost use Rattle.aft_meta.specs.Index.{exceeds, ids_under, overtaken_by, stands_under};
 
 use crate::ids::Ids;
 use aft_id::{Memory, TxnId};
@@ -37,6 +37,16 @@ pub(crate) fn newest_below(writers: &Writers, key: &Key, id: &TxnId) -> Option<T
     match writers.get(key) {
         Some(ids) => ids.below(id),
         None => None,
+    }
+}
+
+/// Whether a key has a known writer above an id.
+pub(crate) fn is_exceeded(writers: &Writers, key: &Key, id: &TxnId) -> bool
+    ensures { result ≡ exceeds id.now (greatest (ids_under key.now writers.now.entries)) }
+{
+    match newest(writers, key) {
+        Some(greatest) => id.is_before(&greatest),
+        None => false,
     }
 }
 

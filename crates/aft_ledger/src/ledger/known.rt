@@ -213,17 +213,17 @@ fn dropped_act(ids: Vec<TxnId>) -> (NodeAct, Reply)
 fn droppable(alloc: Global, known: &Meta, table: &TxnTable) -> Result<Vec<TxnId>, Memory>
     ensures { IfOk result (λ ids. ids.items ≡ filter (λ id. supersedes_id id known.now && not (is_pinned_in id table.now.rows)) (ids_of known.now)) }
 {
-    let ids = known.ids()?;
-    loose(alloc, known, table, ids.as_slice())
+    let ids = known.superseded_ids()?;
+    loose(alloc, table, ids.as_slice())
 }
 
-/// Those of some ids whose commits the known ones supersede and that no attempt has read.
-fn loose(alloc: Global, known: &Meta, table: &TxnTable, ids: &[TxnId]) -> Result<Vec<TxnId>, Memory>
-    ensures { IfOk result (λ loose. loose.items ≡ filter (λ id. supersedes_id id known.now && not (is_pinned_in id table.now.rows)) ids.now) }
+/// Those of some ids that no attempt has read.
+fn loose(alloc: Global, table: &TxnTable, ids: &[TxnId]) -> Result<Vec<TxnId>, Memory>
+    ensures { IfOk result (λ loose. loose.items ≡ filter (λ id. not (is_pinned_in id table.now.rows)) ids.now) }
 {
     let mut dropped = Vec::new(alloc);
     for id in ids {
-        if known.superseded(*id) && !table.pinned(*id) {
+        if !table.pinned(*id) {
             dropped.push(*id)?;
         }
     }

@@ -1,8 +1,7 @@
-use Rattle.std.proofs.Common.{◌≡◌, ◌&&◌, not, take}
+use Rattle.std.proofs.Common.{◌≡◌, not, take}
 use Rattle.std.specs.Prelude.{filter}
-use Rattle.aft_meta.specs.KnownCommits.{supersedes_id}
 use Rattle.aft_txn.specs.Rows.{is_pinned_in}
 use Rattle.aft_ledger.proofs.ledger.known.loose.Given as goal
 
 abbrev pub invariant-loop-id : goal.invariant-loop-id
-invariant-loop-id l = l.dropped.items ≡ filter (λ id. supersedes_id id l.known && not (is_pinned_in id l.table.rows)) (take l.id-index l.ids)
+invariant-loop-id l = l.dropped.items ≡ filter (λ id. not (is_pinned_in id l.table.rows)) (take l.id-index l.ids)
