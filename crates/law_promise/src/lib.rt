@@ -1,0 +1,8 @@
+//! The promise, of each legal trace of a store that keeps what it acknowledged.
+//!
+//! It has no code.
+#![tactic(auto)]
+
+mod laws;
+
+pub use laws::{doors_are_lawful, ids_commit_once, whole_until_superseded};

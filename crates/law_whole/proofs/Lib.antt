@@ -1,0 +1,4 @@
+pub mod Lists
+pub mod Throughout
+pub mod Acknowledged
+pub mod Promised
