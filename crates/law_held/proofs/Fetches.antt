@@ -82,7 +82,7 @@ some_in test (x ∷ lines) is = lt-ltb 0 (suc (length lines)) (omega arith)
 
 -- ---- what is read
 
-any_more : {A : Type 0} (test : A → Bool) (xs ys : List A) → IsTrue (list_any test xs) → IsTrue (list_any test (xs ++ ys))
+pub any_more : {A : Type 0} (test : A → Bool) (xs ys : List A) → IsTrue (list_any test xs) → IsTrue (list_any test (xs ++ ys))
 any_more test xs ys is = (let found = any_found test xs is in any_from test found.0 (xs ++ ys) (in_front found.0 xs ys found.1) found.2)
 
 with_kept : (p q : ReadPair) (before : List ReadPair) → IsTrue (is_read p before) → IsTrue (is_read p (with_read q before))

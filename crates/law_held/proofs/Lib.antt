@@ -18,3 +18,4 @@ pub mod Copies
 pub mod Stand
 pub mod StandOthers
 pub mod Numbered
+pub mod Serving

@@ -1,7 +1,7 @@
 -- Lines that move attempts stand as their positions ask, and each of their turns at a node finds its attempt so.
 use Rattle.std.proofs.Common.{◌≡◌, ℕ, Bool, true, false, ◌&&◌, ◌||◌, not, List, [], ◌∷◌, ◌++◌, refl, sym, ap, subst, ◌∙◌, ◌⊎◌, inl, inr, append-nil, take}
-use Rattle.std.specs.Prelude.{IsTrue, None, Option, Some, filter, if◌then◌else◌, is_some, map}
-use Rattle.std.proofs.lemmas.Bool.{and_from, and_parts, cases_Bool, eq-eqb, eqb-true, false≢true, not-true, or_left, or_right, true≢false}
+use Rattle.std.specs.Prelude.{IsFalse, IsTrue, None, Option, Some, filter, if◌then◌else◌, is_some, map}
+use Rattle.std.proofs.lemmas.Bool.{and_from, and_parts, cases_Bool, eq-eqb, eqb-true, false≢true, not-true, or_cases, or_left, or_right, true≢false}
 use Rattle.aft_model.specs.declared.caller.Attempt.{Attempt}
 use Rattle.aft_model.specs.declared.caller.By.{By}
 use Rattle.aft_model.specs.declared.door.DoorAct.{DoorAct}
@@ -15,7 +15,7 @@ use Rattle.aft_model.specs.History.{each_after}
 use Rattle.aft_model.specs.LegalDoor.{Legal, may_come, may_follow}
 use Rattle.aft_model.specs.Membership.{Incarnation, incarnation, is_up}
 use Rattle.aft_model.specs.NodeSights.{is_fenced}
-use Rattle.aft_model.specs.NodeState.{node_state, part}
+use Rattle.aft_model.specs.NodeState.{NodeState, node_state, part, serves}
 use Rattle.aft_model.specs.Opening.{may_read}
 use Rattle.aft_model.specs.ScanRun.{same_line}
 use Rattle.aft_model.proofs.Histories.{In, each_after_split}
@@ -53,6 +53,7 @@ use Rattle.law_held.specs.Standing.{ClaimsAreNew, LinesStand, TurnsFind, finds_a
 use Rattle.law_held.proofs.DeskHeld.{among_itself}
 use Rattle.law_held.proofs.Lines.{leads}
 use Rattle.law_held.proofs.OwnSteps.{MovedBy, moved_by}
+use Rattle.law_held.proofs.Serving.{serves_up}
 
 -- ---- claims
 
@@ -186,10 +187,26 @@ module _ (asked : Asked) (ran : Ran) (so : Goes asked ran) (differ : LinesDiffer
     at_last : (position : Progress) → position_of (view_of asked ran line) ≡ Some position → last.at by ≡ position
     at_last position is = at_line (run_steps ran) ∙ ap or_not_begun (ap (leads_to line.order nodes its_ends) (own_are asked ran so line listed of) ∙ is)
 
-    stands_there : (position : Progress) (a : Attempt) → last.at by ≡ position → attempt_at position ≡ Some a → IsTrue (is_up (caller_of a) ran.trace.door)
+    -- unless its incarnation was fenced, it is served, and so up
+    up_there : (a : Attempt) → attempt_at (last.at by) ≡ Some a → IsFalse (is_fenced (caller_of a) ran.trace.door) → IsTrue (is_up (caller_of a) last.door)
+    up_there a mine unfenced = elim (moved_by last a by mine (keeps_last.attempts a (keeps_last.movers by a mine))) [
+      | inl gone ↦ absurd (not_gone gone)
+      | inr moved ↦
+          let s = served a (node_state (last.node a.node)) (doing_there (last.at by) (doing last a) moved.1) in
+          let serve : IsTrue (serves a.inc (node_state (last.node a.node))) = subst (λ (t : NodeState). IsTrue (serves a.inc t)) (sym s.1) (eq-eqb a.inc s.0.inc s.2) in
+          elim (or_cases (is_up (caller_of a) last.door) (is_fenced (caller_of a) last.door) (serves_up asked ran so (run_steps ran) [] (sym (append-nil (run_steps ran))) a.node a.inc serve)) [
+            | inl up ↦ up
+            | inr gone ↦ absurd (not_gone gone)
+          ]
+    ]
+      where
+        not_gone : IsTrue (is_fenced (caller_of a) last.door) → ⊥
+        not_gone gone = true≢false (sym (subst (λ (d : List DoorEntry). IsTrue (is_fenced (caller_of a) d)) door_last gone) ∙ unfenced)
+
+    stands_there : (position : Progress) (a : Attempt) → last.at by ≡ position → attempt_at position ≡ Some a → IsFalse (is_fenced (caller_of a) ran.trace.door)
         → IsTrue (moves position a (attempt_state a (part_of_node a.node ran)) (uuid_of a (part_of_node a.node ran)) && same_answer (holds (caller_of a) (uuid_of a (part_of_node a.node ran)) ran.trace.door) (has_claim_at position))
-    stands_there position a at is up =
-        let held = moved_holds last (subst Legal (sym door_last) so.door) keeps_last by a (ap attempt_at at ∙ is) (subst (λ (d : List DoorEntry). IsTrue (is_up (caller_of a) d)) (sym door_last) up) in
+    stands_there position a at is unfenced =
+        let held = moved_holds last (subst Legal (sym door_last) so.door) keeps_last by a (ap attempt_at at ∙ is) (up_there a (ap attempt_at at ∙ is) unfenced) in
         let moved : IsTrue (moves position a (doing last a) (named last a)) = subst (λ (p : Progress). IsTrue (moves p a (doing last a) (named last a))) at held.0 in
         let does = (and_parts (is_the a (attempt_at position)) (is_doing position (doing last a)) (and_parts (is_the a (attempt_at position) && is_doing position (doing last a)) (names_uuid position (named last a)) moved).0).1 in
         let its = its_part a.node (history_in a.node 1 ran.trace.nodes) last a refl (sym (node_all a.node)) position does in
@@ -200,9 +217,11 @@ module _ (asked : Asked) (ran : Ran) (so : Goes asked ran) (differ : LinesDiffer
 
     stands_as : (position : Progress) → last.at by ≡ position → (o : Option Attempt) → attempt_at position ≡ o → IsTrue (stands_with ran position o)
     stands_as position at None is = refl
-    stands_as position at (Some a) is = elim (cases_Bool (is_up (caller_of a) ran.trace.door)) [
-      | inl up ↦ or_right (not (is_up (caller_of a) ran.trace.door)) _ (stands_there position a at is up)
-      | inr down ↦ or_left (not (is_up (caller_of a) ran.trace.door)) (moves position a (attempt_state a (part_of_node a.node ran)) (uuid_of a (part_of_node a.node ran)) && same_answer (holds (caller_of a) (uuid_of a (part_of_node a.node ran)) ran.trace.door) (has_claim_at position)) (ap not down)
+    stands_as position at (Some a) is = elim (cases_Bool (is_fenced (caller_of a) ran.trace.door)) [
+      | inl gone ↦
+          or_left (is_fenced (caller_of a) ran.trace.door)
+          (moves position a (attempt_state a (part_of_node a.node ran)) (uuid_of a (part_of_node a.node ran)) && same_answer (holds (caller_of a) (uuid_of a (part_of_node a.node ran)) ran.trace.door) (has_claim_at position)) gone
+      | inr unfenced ↦ or_right (is_fenced (caller_of a) ran.trace.door) _ (stands_there position a at is unfenced)
     ]
 
     stands_so : (o : Option Progress) → position_of (view_of asked ran line) ≡ o → IsTrue (stands_rightly ran o)

@@ -10,7 +10,7 @@ use Rattle.aft_model.specs.declared.script.Command.TheVariants.{Get}
 use Rattle.aft_model.specs.Attempts.{attempt_state, uuid_of}
 use Rattle.aft_model.specs.Claims.{claim_place, holds}
 use Rattle.aft_model.specs.History.{each_after}
-use Rattle.aft_model.specs.Membership.{incarnation, is_up, the_office}
+use Rattle.aft_model.specs.Membership.{incarnation, the_office}
 use Rattle.aft_model.specs.NodeSights.{is_fenced}
 use Rattle.aft_model.specs.NodeState.{node_state, part, serves}
 use Rattle.aft_lines.specs.Advance.{leads_to}
@@ -45,11 +45,11 @@ ClaimsAreNew history = IsTrue (each_after (λ before entry. is_new_claim before 
 abbrev pub part_of_node : ℕ → Ran → List NodeEntry
 part_of_node node ran = part (history_in node 1 ran.trace.nodes)
 
--- whether an attempt that a position moves does what the position asks, and holds its UUID just where the line has claimed it and not let it go, if its incarnation is up
+-- whether an attempt that a position moves does what the position asks, and holds its UUID just where the line has claimed it and not let it go, unless its incarnation was fenced
 abbrev pub stands_with : Ran → Progress → Option Attempt → Bool
 stands_with ran position None = true
 stands_with ran position (Some a) =
-    not (is_up (caller_of a) ran.trace.door)
+    is_fenced (caller_of a) ran.trace.door
     || moves position a (attempt_state a (part_of_node a.node ran)) (uuid_of a (part_of_node a.node ran))
     && same_answer (holds (caller_of a) (uuid_of a (part_of_node a.node ran)) ran.trace.door) (has_claim_at position)
 

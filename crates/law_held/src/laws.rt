@@ -1,6 +1,9 @@
 //! Laws of claims over whole runs, as calls that do nothing and promise them.
 
-ghost use Rattle.std.specs.Prelude.{◌≡◌, ◌++◌, IsTrue, List, [], ℕ};
+ghost use Rattle.std.specs.Prelude.{◌≡◌, ◌++◌, ◌||◌, IsTrue, List, [], ℕ};
+ghost use Rattle.aft_model.specs.Membership.{incarnation, is_up};
+ghost use Rattle.aft_model.specs.NodeSights.{is_fenced};
+ghost use Rattle.aft_model.specs.NodeState.{node_state, serves};
 ghost use Rattle.aft_lines.specs.Asked.{Asked, Ran};
 ghost use Rattle.aft_lines.specs.Holding.{ClaimsHeld, DeskHeld, FetchesStayOpen};
 ghost use Rattle.aft_lines.specs.LegalTrace.{LegalTrace, are_asks};
@@ -78,13 +81,19 @@ pub fn one_line_twice()
     ensures unheld { DeskHeld twice twice_ran → ⊥ }
 {}
 
+/// At each moment of a run so far, and of a legal trace, an incarnation that its node serves is up, or was fenced.
+pub fn served_are_up()
+    ensures so_far { (asked : Asked) (ran : Ran) (made rest : List Made) (node inc : ℕ) → RunsSoFar asked ran → run_steps ran ≡ made ++ rest → IsTrue (serves inc (node_state (node_steps node made))) → IsTrue (is_up (incarnation node inc) (door_steps made) || is_fenced (incarnation node inc) (door_steps made)) }
+    ensures legal { (asked : Asked) (ran : Ran) (made rest : List Made) (node inc : ℕ) → LegalTrace asked ran → run_steps ran ≡ made ++ rest → IsTrue (serves inc (node_state (node_steps node made))) → IsTrue (is_up (incarnation node inc) (door_steps made) || is_fenced (incarnation node inc) (door_steps made)) }
+{}
+
 /// In a run so far, and in a legal trace, whoever claims a UUID isn't its holder already.
 pub fn claims_are_new()
     ensures so_far { (asked : Asked) (ran : Ran) → RunsSoFar asked ran → ClaimsAreNew ran.trace.door }
     ensures legal { (asked : Asked) (ran : Ran) → LegalTrace asked ran → ClaimsAreNew ran.trace.door }
 {}
 
-/// Where the lines of a run so far differ, each stands in the end as it has come. While its attempt's incarnation is up, that
+/// Where the lines of a run so far differ, each stands in the end as it has come. Unless its incarnation was fenced, the attempt
 /// of a begin, a forget, a commit or an abort does what the line's position asks, is of its UUID, and holds that just where the
 /// line has claimed it and not let it go. The attempt of a get that fetches runs and has read the version, while its node
 /// serves its incarnation. And the office holds what a round of orphans holds, by the place of the round's claim.
