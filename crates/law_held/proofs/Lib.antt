@@ -10,6 +10,7 @@ pub mod GetLines
 pub mod Lines
 pub mod OpenFetches
 pub mod Placed
+pub mod OfficeLines
 pub mod OrphanLines
 pub mod DeskRuns
 pub mod HeldAt
@@ -19,3 +20,9 @@ pub mod Stand
 pub mod StandOthers
 pub mod Numbered
 pub mod Serving
+pub mod Low
+pub mod ComesUp
+pub mod CopyLines
+pub mod CopierSteps
+pub mod Copiers
+pub mod CopiersEnd

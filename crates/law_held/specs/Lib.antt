@@ -4,3 +4,4 @@ pub mod Desk
 pub mod Copies
 pub mod Twice
 pub mod Standing
+pub mod Fenced

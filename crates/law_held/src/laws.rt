@@ -1,6 +1,6 @@
 //! Laws of claims over whole runs, as calls that do nothing and promise them.
 
-ghost use Rattle.std.specs.Prelude.{◌≡◌, ◌++◌, ◌||◌, IsTrue, List, [], ℕ};
+ghost use Rattle.std.specs.Prelude.{◌≡◌, ◌++◌, ◌||◌, IsFalse, IsTrue, List, [], ℕ};
 ghost use Rattle.aft_model.specs.Membership.{incarnation, is_up};
 ghost use Rattle.aft_model.specs.NodeSights.{is_fenced};
 ghost use Rattle.aft_model.specs.NodeState.{node_state, serves};
@@ -12,8 +12,9 @@ ghost use Rattle.aft_lines.specs.Steps.{Made, door_steps};
 ghost use Rattle.law_claims.specs.Desk.{LiesAtDesk};
 ghost use Rattle.law_claims.specs.Moments.{node_steps, scene_of};
 ghost use Rattle.law_runs.specs.Runs.{asking_of, run_steps};
-ghost use Rattle.law_held.specs.Copies.{MarksBesideNone};
+ghost use Rattle.law_held.specs.Copies.{CopiersLie, CopiesStand, CrashesSpare, MarksBesideNone, copier_of, has_copier};
 ghost use Rattle.law_held.specs.Desk.{LinesDiffer, desk_of, is_script};
+ghost use Rattle.law_held.specs.Fenced.{fencing, fencing_ran};
 ghost use Rattle.law_held.specs.Fetching.{KeepsFetches, fetch_of};
 ghost use Rattle.law_held.specs.Owning.{Owns};
 ghost use Rattle.law_held.specs.Standing.{ClaimsAreNew, GetsStand, LinesStand, RoundsStand, TurnsFind};
@@ -60,6 +61,27 @@ pub fn runs_keep_desk()
 pub fn desk_is_held()
     ensures so_far { (asked : Asked) (ran : Ran) → RunsSoFar asked ran → LinesDiffer asked → DeskHeld asked ran }
     ensures legal { (asked : Asked) (ran : Ran) → LegalTrace asked ran → DeskHeld asked ran }
+{}
+
+/// At each moment of a run so far whose crashes fence no copier, and of a legal trace, either no copy has a copier up, and none
+/// is; or just one copy has, and its copier alone is up.
+pub fn runs_keep_copiers()
+    ensures so_far { (asked : Asked) (ran : Ran) (made rest : List Made) → RunsSoFar asked ran → CrashesSpare asked ran → run_steps ran ≡ made ++ rest → CopiersLie (door_steps made) (copier_of (asking_of asked ran) made) }
+    ensures legal { (asked : Asked) (ran : Ran) (made rest : List Made) → LegalTrace asked ran → run_steps ran ≡ made ++ rest → CopiersLie (door_steps made) (copier_of (asking_of asked ran) made) }
+{}
+
+/// So in the end of such a run so far, if its lines differ, the copier of each copy is up where that has come; the crashes of a
+/// legal trace fence no copier; and in its end none is up.
+pub fn copies_stand()
+    ensures so_far { (asked : Asked) (ran : Ran) → RunsSoFar asked ran → LinesDiffer asked → CrashesSpare asked ran → CopiesStand asked ran }
+    ensures spared { (asked : Asked) (ran : Ran) → LegalTrace asked ran → CrashesSpare asked ran }
+    ensures none_left { (asked : Asked) (ran : Ran) → LegalTrace asked ran → IsFalse (has_copier ran.trace.door) }
+{}
+
+/// A run so far in which a crash that is on its way has fenced a copier is none in which the copier of each copy is up.
+pub fn a_crash_fences_a_copier()
+    ensures runs { RunsSoFar fencing fencing_ran }
+    ensures fenced { CopiesStand fencing fencing_ran → ⊥ }
 {}
 
 /// In a run so far, and in a legal trace, no full marker is put while a copier is up.

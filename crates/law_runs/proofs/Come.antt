@@ -124,13 +124,13 @@ module _ (asked : Asked) (ran : Ran) (so : Goes asked ran) where
   pub rise : IsTrue (fronts_rise plain)
   rise = rises_without capacity ran.trace so.nodes
 
-  opens_parts : IsTrue (list_all (list_all (is_of_lines (lines asked))) (makers ran)) × IsTrue (opening_begins (node_numbers asked.settings) (turns opening ran.trace))
+  pub opens_parts : IsTrue (list_all (list_all (is_of_lines (lines asked))) (makers ran)) × IsTrue (opening_begins (node_numbers asked.settings) (turns opening ran.trace))
   opens_parts = and_parts (list_all (list_all (is_of_lines (lines asked))) (makers ran)) (opening_begins (node_numbers asked.settings) (turns opening ran.trace)) so.opening
 
-  door_makers : IsTrue (list_all (is_of_lines (lines asked)) (map (λ (e : DoorEntry). e.by) ran.trace.door))
+  pub door_makers : IsTrue (list_all (is_of_lines (lines asked)) (map (λ (e : DoorEntry). e.by) ran.trace.door))
   door_makers = all_at (list_all (is_of_lines (lines asked))) (map (λ (e : DoorEntry). e.by) ran.trace.door) (makers ran) (inl refl) opens_parts.0
 
-  node_makers : IsTrue (list_all (list_all (is_of_lines (lines asked))) (map (map (λ (e : NodeEntry). e.by)) ran.trace.nodes))
+  pub node_makers : IsTrue (list_all (list_all (is_of_lines (lines asked))) (map (map (λ (e : NodeEntry). e.by)) ran.trace.nodes))
   node_makers = all_from (list_all (is_of_lines (lines asked))) (map (map (λ (e : NodeEntry). e.by)) ran.trace.nodes) (λ bys there.
       all_at (list_all (is_of_lines (lines asked))) bys (makers ran) (inr (inr (in_front bys (map (map (λ (e : NodeEntry). e.by)) ran.trace.nodes) (map (map (λ (e : MailEntry). e.by)) ran.mail) there))) opens_parts.0)
 
