@@ -37,6 +37,7 @@ use Rattle.law_runs.proofs.Retires.{split_at}
 use Rattle.law_steps.specs.OneList.{entries_of}
 use Rattle.law_turns.proofs.Sorting.{sorted_ascends}
 use Rattle.law_held.specs.Copies.{comes_low}
+use Rattle.law_held.proofs.Begun.{BootBefore, opening_begun, start_begun}
 use Rattle.law_held.proofs.Low.{begins_low, start_low}
 use Rattle.law_held.proofs.Placed.{placed}
 
@@ -70,7 +71,7 @@ nodes_bound by node (h ∷ histories) at history entry among = elim (in_append (
   | inr later ↦ (let less : at < suc node + length histories = nodes_bound by (suc node) histories at history entry later in omega arith)
 ]
 
-door_none : (by : By) (place : ℕ) (door : List DoorEntry) (at : ℕ) (history : List NodeEntry) (entry : NodeEntry) → In (AtNode at history entry) (door_turns by place door) → ⊥
+pub door_none : (by : By) (place : ℕ) (door : List DoorEntry) (at : ℕ) (history : List NodeEntry) (entry : NodeEntry) → In (AtNode at history entry) (door_turns by place door) → ⊥
 door_none by place [] at history entry none = none
 door_none by place (e ∷ door) at history entry among = elim (in_append (AtNode at history entry) (if same_line by e.by then AtDoor place e.act ∷ [] else []) (door_turns by (suc place) door) among) [
   | inl here ↦ at_here (same_line by e.by) here
@@ -82,7 +83,7 @@ door_none by place (e ∷ door) at history entry among = elim (in_append (AtNode
     at_here true (inr none) = none
     at_here false none = none
 
-office_none : (by : By) (before office : List OfficeEntry) (at : ℕ) (history : List NodeEntry) (entry : NodeEntry) → In (AtNode at history entry) (office_turns by before office) → ⊥
+pub office_none : (by : By) (before office : List OfficeEntry) (at : ℕ) (history : List NodeEntry) (entry : NodeEntry) → In (AtNode at history entry) (office_turns by before office) → ⊥
 office_none by before [] at history entry none = none
 office_none by before (e ∷ office) at history entry among = elim (in_append (AtNode at history entry) (if same_line by e.by then AtOffice before e ∷ [] else []) (office_turns by (before ++ e ∷ []) office) among) [
   | inl here ↦ at_here (same_line by e.by) here
@@ -176,9 +177,9 @@ module _ (asked : Asked) (ran : Ran) (so : Goes asked ran) where
         cases true come = absurd (not_come e.act its come)
         cases false open_rule = (and_parts (same_line opening e.by) (may_read h e.act) open_rule).0
 
-    -- by the opening
-    opening_low : opening ≡ one.by → IsFalse (eqb node copier)
-    opening_low own =
+    -- by the opening: behind its opening of the door
+    opened_before : (q : ℕ) × In (AtDoor q doors.Opened) (turns opening ran.trace) × (q < place)
+    opened_before =
         let found = any_found (λ (e : DoorEntry). opens e.act) (door_steps before) was_open in
         let cut = split_at found.0 (door_steps before) found.1 in
         let whole : ran.trace.door ≡ cut.0 ++ found.0 ∷ (cut.1 ++ record { by = one.by; act = doors.Up node inc } ∷ door_steps rest) = door_there ∙ (ap (λ (l : List DoorEntry). l ++ record { by = one.by; act = doors.Up node inc } ∷ door_steps rest) cut.2 ∙ append_assoc cut.0 (found.0 ∷ cut.1) (record { by = one.by; act = doors.Up node inc } ∷ door_steps rest)) in
@@ -189,11 +190,14 @@ module _ (asked : Asked) (ran : Ran) (so : Goes asked ran) where
         (in_turns opening ran.trace (AtDoor (0 + length cut.0) found.0.act) (in_front (AtDoor (0 + length cut.0) found.0.act) (nodes_turns opening 1 ran.trace.nodes ++ door_turns opening 0 ran.trace.door) (office_turns opening [] ran.trace.office) (in_back (AtDoor (0 + length cut.0) found.0.act) (nodes_turns opening 1 ran.trace.nodes) (door_turns opening 0 ran.trace.door) there))) in
         let at : place ≡ length (door_steps before) = placed (without_office ran.trace) before rest one place (doors.Up node inc) is turned in
         let long : length (door_steps before) ≡ length cut.0 + suc (length cut.1) = ap (λ (l : List DoorEntry). length l) cut.2 ∙ length-append cut.0 (found.0 ∷ cut.1) in
-        begins_low (node_numbers asked.settings) (turns opening ran.trace) numbers_low (sorted_ascends [] (entries_of opening ran.trace) refl) (opens_parts asked ran so).1 (0 + length cut.0) place node inc opened (its_turn opening (sym own)) (omega arith)
+        (0 + length cut.0, opened, omega arith)
       where
         is_opened : (act : DoorAct) → IsTrue (opens act) → act ≡ doors.Opened
         is_opened doors.Opened o = refl
         is_opened act o = absurd (false≢true o)
+
+    opening_low : opening ≡ one.by → IsFalse (eqb node copier)
+    opening_low own = begins_low (node_numbers asked.settings) (turns opening ran.trace) numbers_low (sorted_ascends [] (entries_of opening ran.trace) refl) (opens_parts asked ran so).1 opened_before.0 place node inc opened_before.1 (its_turn opening (sym own)) opened_before.2
 
     -- whoever comes up is no copier, unless a copy brings it up
     pub low_or_copy : ((line : Line) × In line (lines asked) × (line_of line ≡ one.by) × (line_among one.by (lines asked) ≡ Some line) × (line.order ≡ commands.Backup)) ⊎ IsFalse (eqb node copier)
@@ -206,5 +210,37 @@ module _ (asked : Asked) (ran : Ran) (so : Goes asked ran) where
         ]
         cases (inr n) = inr (elim (or_cases (same_line opening one.by) (list_any (λ (l : Line). same_line (line_of l) one.by) (lines asked)) (step_by (is_of_lines (lines asked)) ran.trace one (door_makers asked ran so) (node_makers asked ran so) among)) [
           | inl it ↦ opening_low (same_by opening one.by it)
+          | inr other ↦ absurd (true≢false (sym other ∙ n.1))
+        ])
+
+    -- whoever comes up was begun to boot by its line, unless a copy brings it up
+    pub booted_or_copy : (IsTrue (eqb node copier)) ⊎ BootBefore node inc (AtDoor place (doors.Up node inc)) (turns one.by ran.trace)
+    booted_or_copy = cases (named_line one.by (lines asked))
+      where
+        by_start : (line : Line) → In line (lines asked) → line_of line ≡ one.by → (home : ℕ) → line.order ≡ commands.Start home → BootBefore node inc (AtDoor place (doors.Up node inc)) (turns one.by ran.trace)
+        by_start line listed its home order =
+            let come = has_come asked ran so line listed in
+            subst (λ (b : By). BootBefore node inc (AtDoor place (doors.Up node inc)) (turns b ran.trace)) its
+            (start_begun (ends_of (view_of asked ran line)) home (node_numbers asked.settings) (turns (line_of line) ran.trace) come.0
+            (ap (λ (c : Command). leads_to c (node_numbers asked.settings) (ends_of (view_of asked ran line)) (turns (line_of line) ran.trace)) (sym order) ∙ come.1)
+            (sorted_ascends [] (entries_of (line_of line) ran.trace) refl) place node inc (its_turn (line_of line) (sym its)))
+
+        by_opening : opening ≡ one.by → BootBefore node inc (AtDoor place (doors.Up node inc)) (turns one.by ran.trace)
+        by_opening own =
+            subst (λ (b : By). BootBefore node inc (AtDoor place (doors.Up node inc)) (turns b ran.trace)) own
+            (opening_begun (node_numbers asked.settings) (turns opening ran.trace) (sorted_ascends [] (entries_of opening ran.trace) refl) (opens_parts asked ran so).1 opened_before.0 place node inc opened_before.1 (its_turn opening (sym own)) opened_before.2)
+
+        copies : (command : Command) → command ≡ commands.Backup → IsTrue (makes_at_door command (doors.Up node inc)) → IsTrue (eqb node copier)
+        copies command copy made = subst (λ (c : Command). IsTrue (makes_at_door c (doors.Up node inc))) copy made
+
+        cases : Named one.by (lines asked) → (IsTrue (eqb node copier)) ⊎ BootBefore node inc (AtDoor place (doors.Up node inc)) (turns one.by ran.trace)
+        cases (inl n) =
+            let made : IsTrue (makes_at_door n.0.order (doors.Up node inc)) = subst (λ (t : Turn). IsTrue (makes n.0.order t)) turned (turn_made asked ran so before rest one is n.0 n.1 n.2) in
+            elim (up_by n.0.order node inc made) [
+              | inl start ↦ inr (by_start n.0 n.1 n.2 start.0 start.1)
+              | inr copy ↦ inl (copies n.0.order copy made)
+            ]
+        cases (inr n) = inr (elim (or_cases (same_line opening one.by) (list_any (λ (l : Line). same_line (line_of l) one.by) (lines asked)) (step_by (is_of_lines (lines asked)) ran.trace one (door_makers asked ran so) (node_makers asked ran so) among)) [
+          | inl it ↦ by_opening (same_by opening one.by it)
           | inr other ↦ absurd (true≢false (sym other ∙ n.1))
         ])

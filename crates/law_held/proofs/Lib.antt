@@ -26,3 +26,7 @@ pub mod CopyLines
 pub mod CopierSteps
 pub mod Copiers
 pub mod CopiersEnd
+pub mod Boots
+pub mod Begun
+pub mod Starts
+pub mod StartsEnd

@@ -135,26 +135,31 @@ begins_low nodes line low up is q p m j opened comes less = absurd (false≢true
 -- ---- starts
 
 -- the incarnation that a start is to bring up, or has
-abbrev starts_at : Progress → Option Incarnation
+abbrev pub starts_at : Progress → Option Incarnation
 starts_at (MustComeUp who) = Some who
 starts_at (BootScan scan) = Some scan.who
 starts_at (BootScanned who whole) = Some who
 starts_at position = None
 
--- behind a turn it is of the same node, or the line is over
-abbrev OnIf : ℕ → Turn → Option Progress → Type 0
-OnIf node turn None = Unit {0}
-OnIf node turn (Some q) = IsTrue (comes_low turn) × (((who : Incarnation) × (starts_at q ≡ Some who) × (who.node ≡ node)) ⊎ IsTrue (has_ended q))
+-- whether whoever comes up by a turn is this one
+abbrev pub as_up : Incarnation → Turn → Bool
+as_up who (AtDoor place (doors.Up node inc)) = same_incarnation who (incarnation node inc)
+as_up who turn = true
+
+-- behind a turn it goes on with this incarnation, or the line is over
+abbrev OnIf : Incarnation → Turn → Option Progress → Type 0
+OnIf who turn None = Unit {0}
+OnIf who turn (Some q) = IsTrue (as_up who turn) × ((starts_at q ≡ Some who) ⊎ IsTrue (has_ended q))
 
 module _ (ends : Ends) where
-  booted_on : (node : ℕ) (who : Incarnation) (whole : Bool) (turn : Turn) → OnIf node turn (booted_by ends who whole turn)
-  booted_on node who whole (AtNode at before entry) = cases (ends_at_node who.node (closes ends who.inc (ends_boot who.inc whole)) (AtNode at before entry ∷ []))
+  booted_on : (w who : Incarnation) (whole : Bool) (turn : Turn) → OnIf w turn (booted_by ends who whole turn)
+  booted_on w who whole (AtNode at before entry) = cases (ends_at_node who.node (closes ends who.inc (ends_boot who.inc whole)) (AtNode at before entry ∷ []))
     where
-      cases : (b : Bool) → OnIf node (AtNode at before entry) (if_so b IsOver)
+      cases : (b : Bool) → OnIf w (AtNode at before entry) (if_so b IsOver)
       cases true = (refl, inr refl)
       cases false = tt
-  booted_on node who whole (AtDoor place act) = tt
-  booted_on node who whole (AtOffice before entry) = tt
+  booted_on w who whole (AtDoor place act) = tt
+  booted_on w who whole (AtOffice before entry) = tt
 
   -- a page's scan is by the same caller
   abbrev caller_in : Scan → Incarnation
@@ -177,33 +182,30 @@ module _ (ends : Ends) where
   page_on (GoesOn scan) = refl
   page_on (HasEnded whole scan) = refl
 
-  paged_on : (node : ℕ) (scan : Scanning) (turn : Turn) → scan.who.node ≡ node → OnIf node turn (boot_paged ends scan turn)
-  paged_on node scan (AtDoor place (doors.Call at inc (calls.Scan prefix after limit) answer)) is = cases (same_incarnation scan.who (incarnation at inc) && bytes_eq scan.prefix prefix && bytes_eq scan.after after && eqb limit page_limit)
+  paged_on : (w : Incarnation) (scan : Scanning) (turn : Turn) → scan.who ≡ w → OnIf w turn (boot_paged ends scan turn)
+  paged_on w scan (AtDoor place (doors.Call at inc (calls.Scan prefix after limit) answer)) is = cases (same_incarnation scan.who (incarnation at inc) && bytes_eq scan.prefix prefix && bytes_eq scan.after after && eqb limit page_limit)
     where
-      cases : (b : Bool) → OnIf node (AtDoor place (doors.Call at inc (calls.Scan prefix after limit) answer)) (paged_by behind_boot_page (if b then behind_answer scan answer ∷ [] else []) (booted_by ends scan.who false (AtDoor place (doors.Call at inc (calls.Scan prefix after limit) answer))))
-      cases true = (refl, inl (caller_in (behind_answer scan answer), page_on (behind_answer scan answer), ap (λ (w : Incarnation). w.node) (answer_on scan answer) ∙ is))
+      cases : (b : Bool) → OnIf w (AtDoor place (doors.Call at inc (calls.Scan prefix after limit) answer)) (paged_by behind_boot_page (if b then behind_answer scan answer ∷ [] else []) (booted_by ends scan.who false (AtDoor place (doors.Call at inc (calls.Scan prefix after limit) answer))))
+      cases true = (refl, inl (page_on (behind_answer scan answer) ∙ ap (λ (x : Incarnation). Some x) (answer_on scan answer ∙ is)))
       cases false = tt
-  paged_on node scan turn is = booted_on node scan.who false turn
+  paged_on w scan turn is = booted_on w scan.who false turn
 
-  come_up_on : (home : ℕ) (nodes : List ℕ) (node : ℕ) (who : Incarnation) (turn : Turn) → IsFalse (eqb node copier) → who.node ≡ node → OnIf node turn (advance (commands.Start home) nodes ends (MustComeUp who) turn)
-  come_up_on home nodes node who (AtDoor place (doors.Up at inc)) low is = cases (same_incarnation who (incarnation at inc)) refl
+  come_up_on : (home : ℕ) (nodes : List ℕ) (w : Incarnation) (turn : Turn) → OnIf w turn (advance (commands.Start home) nodes ends (MustComeUp w) turn)
+  come_up_on home nodes w (AtDoor place (doors.Up at inc)) = cases (same_incarnation w (incarnation at inc)) refl
     where
-      cases : (b : Bool) → same_incarnation who (incarnation at inc) ≡ b → OnIf node (AtDoor place (doors.Up at inc)) (if_so b (BootScan (scan_of names_limit who records_prefix)))
-      cases true same = (ap not (subst (λ (n : ℕ). IsFalse (eqb n copier)) (sym is ∙ ap (λ (w : Incarnation). w.node) (same_who who (incarnation at inc) same)) low), inl (who, refl, is))
+      cases : (b : Bool) → same_incarnation w (incarnation at inc) ≡ b → OnIf w (AtDoor place (doors.Up at inc)) (if_so b (BootScan (scan_of names_limit w records_prefix)))
+      cases true same = (same, inl refl)
       cases false other = tt
-  come_up_on home nodes node who turn low is = paged_on node (scan_of names_limit who records_prefix) turn is
+  come_up_on home nodes w turn = paged_on w (scan_of names_limit w records_prefix) turn refl
 
-  start_on : (home : ℕ) (nodes : List ℕ) (node : ℕ) (position : Progress) (turn : Turn) → IsFalse (eqb node copier) → (who : Incarnation) → starts_at position ≡ Some who → who.node ≡ node → OnIf node turn (advance (commands.Start home) nodes ends position turn)
-  start_on home nodes node (MustComeUp one) turn low who at is = come_up_on home nodes node one turn low (ap (λ (w : Incarnation). w.node) (inside one who at) ∙ is)
-    where
-      inside : (x y : Incarnation) → Some x ≡ Some y → x ≡ y
-      inside x y e = cc
-  start_on home nodes node (BootScan scan) turn low who at is = paged_on node scan turn (ap (λ (w : Incarnation). w.node) (inside scan.who who at) ∙ is)
-    where
-      inside : (x y : Incarnation) → Some x ≡ Some y → x ≡ y
-      inside x y e = cc
-  start_on home nodes node (BootScanned one whole) turn low who at is = booted_on node one whole turn
-  start_on home nodes node position turn low who at is = absurd (let e : None ≡ Some who = at in cc)
+  inside : (x y : Incarnation) → Some x ≡ Some y → x ≡ y
+  inside x y e = cc
+
+  start_on : (home : ℕ) (nodes : List ℕ) (w : Incarnation) (position : Progress) (turn : Turn) → starts_at position ≡ Some w → OnIf w turn (advance (commands.Start home) nodes ends position turn)
+  start_on home nodes w (MustComeUp one) turn at = subst (λ (x : Incarnation). OnIf w turn (advance (commands.Start home) nodes ends (MustComeUp x) turn)) (sym (inside one w at)) (come_up_on home nodes w turn)
+  start_on home nodes w (BootScan scan) turn at = paged_on w scan turn (inside scan.who w at)
+  start_on home nodes w (BootScanned one whole) turn at = booted_on w one whole turn
+  start_on home nodes w position turn at = absurd (let e : None ≡ Some w = at in cc)
 
   ended_none : (home : ℕ) (nodes : List ℕ) (position : Progress) (turn : Turn) → IsTrue (has_ended position) → advance (commands.Start home) nodes ends position turn ≡ None
   ended_none home nodes IsOver turn is = refl
@@ -214,33 +216,53 @@ module _ (ends : Ends) where
     abbrev go : Progress → Turn → Option Progress
     go = advance (commands.Start home) nodes ends
 
-    walk_low : (node : ℕ) → IsFalse (eqb node copier) → (line : List Turn) (position p : Progress) → ((who : Incarnation) × (starts_at position ≡ Some who) × (who.node ≡ node)) ⊎ IsTrue (has_ended position) → fold (advanced go) (Some position) line ≡ Some p → AllLow line
-    walk_low node low [] position p on e = refl
-    walk_low node low (turn ∷ line) position p (inr over) e = absurd (from_nowhere go line p (subst (λ (o : Option Progress). fold (advanced go) o line ≡ Some p) (ended_none home nodes position turn over) e))
-    walk_low node low (turn ∷ line) position p (inl on) e = next (go position turn) (start_on home nodes node position turn low on.0 on.1 on.2) (λ q so e'. walk_low node low line q p so e') e
+    -- what its later turns bring up, and where they lead
+    walk_as : (w : Incarnation) (line : List Turn) (position p : Progress) → (starts_at position ≡ Some w) ⊎ IsTrue (has_ended position) → fold (advanced go) (Some position) line ≡ Some p → IsTrue (list_all (as_up w) line) × ((starts_at p ≡ Some w) ⊎ IsTrue (has_ended p))
+    walk_as w [] position p on e = (refl, subst (λ (x : Progress). (starts_at x ≡ Some w) ⊎ IsTrue (has_ended x)) (same_inside position p e) on)
       where
-        next : (o : Option Progress) → OnIf node turn o → ((q : Progress) → ((who : Incarnation) × (starts_at q ≡ Some who) × (who.node ≡ node)) ⊎ IsTrue (has_ended q) → fold (advanced go) (Some q) line ≡ Some p → AllLow line) → fold (advanced go) o line ≡ Some p → AllLow (turn ∷ line)
+        same_inside : (x y : Progress) → Some x ≡ Some y → x ≡ y
+        same_inside x y s = cc
+    walk_as w (turn ∷ line) position p (inr over) e = absurd (from_nowhere go line p (subst (λ (o : Option Progress). fold (advanced go) o line ≡ Some p) (ended_none home nodes position turn over) e))
+    walk_as w (turn ∷ line) position p (inl on) e = next (go position turn) (start_on home nodes w position turn on) (λ q so e'. walk_as w line q p so e') e
+      where
+        next : (o : Option Progress) → OnIf w turn o → ((q : Progress) → (starts_at q ≡ Some w) ⊎ IsTrue (has_ended q) → fold (advanced go) (Some q) line ≡ Some p → IsTrue (list_all (as_up w) line) × ((starts_at p ≡ Some w) ⊎ IsTrue (has_ended p))) → fold (advanced go) o line ≡ Some p
+            → IsTrue (list_all (as_up w) (turn ∷ line)) × ((starts_at p ≡ Some w) ⊎ IsTrue (has_ended p))
         next None so rest e' = absurd (from_nowhere go line p e')
-        next (Some q) so rest e' = and_from (comes_low turn) (list_all comes_low line) so.0 (rest q so.1 e')
+        next (Some q) so rest e' = (let more = rest q so.1 e' in (and_from (as_up w turn) (list_all (as_up w) line) so.0 more.0, more.1))
 
-    first_on : (at : ℕ) (act : NodeAct) (o : Option Progress) → started_with at act ≡ o → (q : Progress) → o ≡ Some q → ((who : Incarnation) × (starts_at q ≡ Some who) × (who.node ≡ at)) ⊎ IsTrue (has_ended q)
-    first_on at acts.Nothing o is q e = inr (subst (λ (x : Progress). IsTrue (has_ended x)) (let s : Some IsOver ≡ Some q = is ∙ e in over_is q s) refl)
+    over_alone : (line : List Turn) (p : Progress) → fold (advanced go) (Some IsOver) line ≡ Some p → (line ≡ []) × IsTrue (has_ended p)
+    over_alone [] p e = (refl, subst (λ (x : Progress). IsTrue (has_ended x)) (over_is p e) refl)
       where
         over_is : (x : Progress) → Some IsOver ≡ Some x → IsOver ≡ x
         over_is x s = cc
-    first_on at (acts.Booting inc) o is q e = inl (incarnation at inc, subst (λ (x : Progress). starts_at x ≡ Some (incarnation at inc)) (must_is q (is ∙ e)) refl, refl)
+    over_alone (turn ∷ line) p e = absurd (from_nowhere go line p e)
+
+    -- its first turn begins to boot an incarnation, which alone it brings up; or it is over
+    pub start_first : (at : ℕ) (history : List NodeEntry) (entry : NodeEntry) (line : List Turn) (p : Progress) → leads_to (commands.Start home) nodes ends (AtNode at history entry ∷ line) ≡ Some p
+        → ((inc : ℕ) × (entry.act ≡ acts.Booting inc) × IsTrue (list_all (as_up (incarnation at inc)) line) × ((starts_at p ≡ Some (incarnation at inc)) ⊎ IsTrue (has_ended p))) ⊎ (line ≡ []) × IsTrue (has_ended p)
+    start_first at history entry line p e = by_act entry.act refl e
       where
-        must_is : (x : Progress) → Some (MustComeUp (incarnation at inc)) ≡ Some x → MustComeUp (incarnation at inc) ≡ x
-        must_is x s = cc
-    first_on at act o is q e = absurd (let s : None ≡ Some q = is ∙ e in cc)
+        by_act : (act : NodeAct) → entry.act ≡ act → fold (advanced go) (started_with at act) line ≡ Some p → ((inc : ℕ) × (entry.act ≡ acts.Booting inc) × IsTrue (list_all (as_up (incarnation at inc)) line) × ((starts_at p ≡ Some (incarnation at inc)) ⊎ IsTrue (has_ended p))) ⊎ (line ≡ []) × IsTrue (has_ended p)
+        by_act acts.Nothing its e' = inr (over_alone line p e')
+        by_act (acts.Booting inc) its e' = (let walked = walk_as (incarnation at inc) line (MustComeUp (incarnation at inc)) p (inl refl) e' in inl (inc, its, walked.0, walked.1))
+        by_act act its e' = absurd (from_nowhere go line p e')
+
+    as_low : (w : Incarnation) (line : List Turn) → IsFalse (eqb w.node copier) → IsTrue (list_all (as_up w) line) → AllLow line
+    as_low w [] low all = refl
+    as_low w (turn ∷ line) low all =
+        let parts = and_parts (as_up w turn) (list_all (as_up w) line) all in
+        and_from (comes_low turn) (list_all comes_low line) (here turn parts.0) (as_low w line low parts.1)
+      where
+        here : (t : Turn) → IsTrue (as_up w t) → IsTrue (comes_low t)
+        here (AtDoor place (doors.Up node inc)) is = ap not (subst (λ (x : Incarnation). IsFalse (eqb x.node copier)) (same_who w (incarnation node inc) is) low)
+        here t is = refl
 
     -- a start brings no copier up, if its first turn is at another node
     pub start_low : (line : List Turn) (p : Progress) → leads_to (commands.Start home) nodes ends line ≡ Some p → ((at : ℕ) (history : List NodeEntry) (entry : NodeEntry) → In (AtNode at history entry) line → IsFalse (eqb at copier)) → AllLow line
     start_low [] p e nodes_low = refl
     start_low (AtDoor place act ∷ line) p e nodes_low = absurd (from_nowhere go line p e)
     start_low (AtOffice history entry ∷ line) p e nodes_low = absurd (from_nowhere go line p e)
-    start_low (AtNode at history entry ∷ line) p e nodes_low = next (started_with at entry.act) refl e
-      where
-        next : (o : Option Progress) → started_with at entry.act ≡ o → fold (advanced go) o line ≡ Some p → AllLow line
-        next None is e' = absurd (from_nowhere go line p e')
-        next (Some q) is e' = walk_low at (nodes_low at history entry (inl refl)) line q p (first_on at entry.act (Some q) is q refl) e'
+    start_low (AtNode at history entry ∷ line) p e nodes_low = elim (start_first at history entry line p e) [
+      | inr over ↦ subst AllLow (sym over.0) refl
+      | inl boot ↦ as_low (incarnation at boot.0) line (nodes_low at history entry (inl refl)) boot.2
+    ]

@@ -39,13 +39,13 @@ use Rattle.law_held.proofs.Fetches.{any_more}
 -- ---- who came up is up, or was fenced
 
 module _ (who : Incarnation) where
-  abbrev Came : List DoorEntry → Type 0
+  abbrev pub Came : List DoorEntry → Type 0
   Came history = IsTrue (list_any (λ (e : DoorEntry). comes_up who e.act) history)
 
   abbrev UpOrFenced : List DoorEntry → Type 0
   UpOrFenced history = IsTrue (is_up who history) ⊎ IsTrue (is_fenced who history)
 
-  ups-snoc : (history : List DoorEntry) (entry : DoorEntry) → ups (history ++ entry ∷ []) ≡ up_after (ups history) entry.act
+  pub ups-snoc : (history : List DoorEntry) (entry : DoorEntry) → ups (history ++ entry ∷ []) ≡ up_after (ups history) entry.act
   ups-snoc history entry = fold-append (λ (b : List Incarnation) (e : DoorEntry). up_after b e.act) (the_office ∷ []) history (entry ∷ [])
 
   -- who was up is so behind an act, or is fenced by it

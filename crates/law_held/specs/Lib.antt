@@ -5,3 +5,4 @@ pub mod Copies
 pub mod Twice
 pub mod Standing
 pub mod Fenced
+pub mod Starting

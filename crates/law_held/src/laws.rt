@@ -3,12 +3,13 @@
 ghost use Rattle.std.specs.Prelude.{◌≡◌, ◌++◌, ◌||◌, IsFalse, IsTrue, List, [], ℕ};
 ghost use Rattle.aft_model.specs.Membership.{incarnation, is_up};
 ghost use Rattle.aft_model.specs.NodeSights.{is_fenced};
-ghost use Rattle.aft_model.specs.NodeState.{node_state, serves};
+ghost use Rattle.aft_model.specs.NodeState.{boots, node_state, serves};
 ghost use Rattle.aft_lines.specs.Asked.{Asked, Ran};
 ghost use Rattle.aft_lines.specs.Holding.{ClaimsHeld, DeskHeld, FetchesStayOpen};
 ghost use Rattle.aft_lines.specs.LegalTrace.{LegalTrace, are_asks};
 ghost use Rattle.aft_lines.specs.RunsSoFar.{RunsSoFar};
 ghost use Rattle.aft_lines.specs.Steps.{Made, door_steps};
+ghost use Rattle.law_holders.specs.Rows.{is_of_node};
 ghost use Rattle.law_claims.specs.Desk.{LiesAtDesk};
 ghost use Rattle.law_claims.specs.Moments.{node_steps, scene_of};
 ghost use Rattle.law_runs.specs.Runs.{asking_of, run_steps};
@@ -18,6 +19,7 @@ ghost use Rattle.law_held.specs.Fenced.{fencing, fencing_ran};
 ghost use Rattle.law_held.specs.Fetching.{KeepsFetches, fetch_of};
 ghost use Rattle.law_held.specs.Owning.{Owns};
 ghost use Rattle.law_held.specs.Standing.{ClaimsAreNew, GetsStand, LinesStand, RoundsStand, TurnsFind};
+ghost use Rattle.law_held.specs.Starting.{StartsStand};
 ghost use Rattle.law_held.specs.Twice.{twice, twice_ran};
 
 /// At each moment of a run so far, and of a legal trace, the line that moves an attempt which commits or leaves owns it, and
@@ -107,6 +109,17 @@ pub fn one_line_twice()
 pub fn served_are_up()
     ensures so_far { (asked : Asked) (ran : Ran) (made rest : List Made) (node inc : ℕ) → RunsSoFar asked ran → run_steps ran ≡ made ++ rest → IsTrue (serves inc (node_state (node_steps node made))) → IsTrue (is_up (incarnation node inc) (door_steps made) || is_fenced (incarnation node inc) (door_steps made)) }
     ensures legal { (asked : Asked) (ran : Ran) (made rest : List Made) (node inc : ℕ) → LegalTrace asked ran → run_steps ran ≡ made ++ rest → IsTrue (serves inc (node_state (node_steps node made))) → IsTrue (is_up (incarnation node inc) (door_steps made) || is_fenced (incarnation node inc) (door_steps made)) }
+{}
+
+/// At each moment of a run so far, and of a legal trace, an incarnation of a node that is up is booting, or its node serves it.
+pub fn ups_are_booting()
+    ensures so_far { (asked : Asked) (ran : Ran) (made rest : List Made) (node inc : ℕ) → RunsSoFar asked ran → run_steps ran ≡ made ++ rest → IsTrue (is_of_node (incarnation node inc)) → IsTrue (is_up (incarnation node inc) (door_steps made)) → IsTrue (boots inc (node_state (node_steps node made)) || serves inc (node_state (node_steps node made))) }
+    ensures legal { (asked : Asked) (ran : Ran) (made rest : List Made) (node inc : ℕ) → LegalTrace asked ran → run_steps ran ≡ made ++ rest → IsTrue (is_of_node (incarnation node inc)) → IsTrue (is_up (incarnation node inc) (door_steps made)) → IsTrue (boots inc (node_state (node_steps node made)) || serves inc (node_state (node_steps node made))) }
+{}
+
+/// So in the end of a run so far, where a start is to bring an incarnation up that wasn't fenced, no other of its node is up.
+pub fn starts_stand()
+    ensures { (asked : Asked) (ran : Ran) → RunsSoFar asked ran → StartsStand asked ran }
 {}
 
 /// In a run so far, and in a legal trace, whoever claims a UUID isn't its holder already.
