@@ -14,10 +14,11 @@ use Rattle.aft_model.specs.Readings.{marker_name, record_name, version_name}
 use Rattle.aft_model.specs.Sound.{markers_prefix, records_prefix}
 use Rattle.aft_door.specs.Entries.{called, came_up, claimed, door_opened, gave_up, released}
 
--- the office in the opening, and incarnation 1 of a node for line 1 of client 1
+-- the office, in the opening
 abbrev pub opener : Caller
 opener = record { node = 0; inc = 1; by = record { client = 0; line = 0 } }
 
+-- incarnation 1 of a node, or the office, for line 1 of client 1
 abbrev pub caller_of : ℕ → Caller
 caller_of node = record { node = node; inc = 1; by = record { client = 1; line = 1 } }
 
@@ -25,13 +26,15 @@ caller_of node = record { node = node; inc = 1; by = record { client = 1; line =
 abbrev pub id_at : ℕ → ℕ → TxnId
 id_at time number = record { time = time; uuid = to_be_bytes w128 number }
 
--- transaction 1 at time 1000, and transaction 2 at time 1001, which wrote over it; both wrote the key x
+-- the key that the transactions write
 abbrev pub key_x : List ℕ
 key_x = codes "x"
 
+-- what transaction 1 wrote at time 1000
 abbrev pub older : Commit
 older = record { id = id_at 1000 1; keys = key_x ∷ [] }
 
+-- what transaction 2 wrote over it at time 1001
 abbrev pub newer : Commit
 newer = record { id = id_at 1001 2; keys = key_x ∷ [] }
 

@@ -332,6 +332,7 @@ fn commits(rt: HostRuntime) {
     assert!(rt; *pair.bytes.as_slice() == *bytes.as_slice());
 }
 
+/// A copy of an id.
 fn copied(id: &TxnId) -> TxnId
     ensures { result ≡ id.now }
 {
