@@ -2,3 +2,10 @@ pub mod Lists
 pub mod Throughout
 pub mod Acknowledged
 pub mod Promised
+pub mod Readable
+pub mod There
+pub mod Told
+pub mod Clear
+pub mod Valued
+pub mod Values
+pub mod Marks

@@ -58,7 +58,7 @@ opened_act : (act : DoorAct) → IsTrue (opens act) → act ≡ Opened
 opened_act Opened is = refl
 opened_act act is = absurd (false≢true is)
 
-opening_of : (before history : List DoorEntry) → IsTrue (is_open history) → Opening (before ++ history)
+pub opening_of : (before history : List DoorEntry) → IsTrue (is_open history) → Opening (before ++ history)
 opening_of before [] is = absurd (false≢true is)
 opening_of before (entry ∷ history) is =
     let joined : before ++ entry ∷ history ≡ (before ++ entry ∷ []) ++ history = sym (append_assoc before (entry ∷ []) history) in
@@ -67,8 +67,8 @@ opening_of before (entry ∷ history) is =
       | inr later ↦ subst Opening (sym joined) (opening_of (before ++ entry ∷ []) history later)
     ]
 
-opens_still : (before after : List DoorEntry) (entry : DoorEntry) → entry.act ≡ Opened → IsTrue (is_open (before ++ entry ∷ []))
-opens_still before after entry is = any_from (λ (e : DoorEntry). opens e.act) entry (before ++ entry ∷ []) (in_back entry before (entry ∷ []) (inl refl)) (subst (λ act. IsTrue (opens act)) (sym is) refl)
+pub opens_still : (before : List DoorEntry) (entry : DoorEntry) → entry.act ≡ Opened → IsTrue (is_open (before ++ entry ∷ []))
+opens_still before entry is = any_from (λ (e : DoorEntry). opens e.act) entry (before ++ entry ∷ []) (in_back entry before (entry ∷ []) (inl refl)) (subst (λ act. IsTrue (opens act)) (sym is) refl)
 
 pub kept_open : (uuid : List ℕ) → IsUuid uuid → (history : List DoorEntry) → IsTrue (is_open history) → Lawful history → Kept uuid history
 kept_open uuid its history opened lawful =
@@ -76,7 +76,7 @@ kept_open uuid its history opened lawful =
     let start : List DoorEntry = at.before ++ at.entry ∷ [] in
     let whole : Lawful (start ++ at.after) = subst Lawful at.parts lawful in
     let base : Kept uuid start = kept_base uuid its at.before at.entry (lawful_begins start at.after whole) at.opened in
-    subst (Kept uuid) (sym at.parts) (always uuid its start at.after (opens_still at.before at.after at.entry at.opened) whole base)
+    subst (Kept uuid) (sym at.parts) (always uuid its start at.after (opens_still at.before at.entry at.opened) whole base)
 
 -- ---- a UUID has one commit
 
@@ -151,7 +151,7 @@ no_sight (Call node inc (Put name bytes) answer) put sight = false≢true sight
 no_sight act put sight = false≢true put
 
 -- a put comes at the open door
-puts_at_open : (before : List DoorEntry) (entry : DoorEntry) → Legal (before ++ entry ∷ []) → IsTrue (is_put entry.act) → IsTrue (is_open before)
+pub puts_at_open : (before : List DoorEntry) (entry : DoorEntry) → Legal (before ++ entry ∷ []) → IsTrue (is_put entry.act) → IsTrue (is_open before)
 puts_at_open before entry legal put = elim (cases_Bool (is_open before)) [
   | inl opened ↦ opened
   | inr shut ↦ absurd (no_sight entry.act put (reads_alone [] (before ++ entry ∷ []) legal (none_snoc (λ (e : DoorEntry). opens e.act) before entry shut (put_opens_nothing entry.act put)) entry (in_back entry before (entry ∷ []) (inl refl))))
@@ -205,7 +205,7 @@ module _ (before : List DoorEntry) (entry : DoorEntry) (lawful : Lawful (before 
 -- ---- at each place
 
 module _ (history : List DoorEntry) (lawful : Lawful history) where
-  lawful_to : (before : List DoorEntry) (entry : DoorEntry) (after : List DoorEntry) → history ≡ before ++ entry ∷ after → Lawful (before ++ entry ∷ [])
+  pub lawful_to : (before : List DoorEntry) (entry : DoorEntry) (after : List DoorEntry) → history ≡ before ++ entry ∷ after → Lawful (before ++ entry ∷ [])
   lawful_to before entry after is = lawful_begins (before ++ entry ∷ []) after (subst Lawful (is ∙ sym (append_assoc before (entry ∷ []) after)) lawful)
 
   pub each_whole : IsTrue (each_after (λ before entry. all_whole (before ++ entry ∷ [])) [] history)

@@ -8,5 +8,7 @@ mod laws;
 
 pub use laws::{
     acknowledged_throughout, beginnings_are_lawful, committed_once_throughout, kept_throughout,
-    promised_of_the_door, used_no_more_throughout, whole_throughout,
+    promised_of_the_door, readable_throughout, settled_rightly, tried_was_given_up,
+    undeleted_is_found, unmarked_is_whole, used_no_more_throughout, values_are_held,
+    whole_throughout,
 };
