@@ -17,3 +17,4 @@ pub mod Told_stage
 pub mod Asked
 pub mod ReadIds
 pub mod Views
+pub mod Fixing

@@ -7,6 +7,7 @@ ghost use Rattle.aft_ledger.specs.Ledger.{FrontsWithin};
 mod asked;
 mod attempts;
 mod commits;
+mod fixing;
 mod known;
 mod stages;
 

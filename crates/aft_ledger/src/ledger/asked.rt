@@ -147,17 +147,6 @@ impl Ledger {
         self.table.writes(attempt.number)
     }
 
-    /// The keys that an attempt that is there has buffered, ascending. Only memory may be wanting.
-    pub fn written_keys(&self, attempt: &Attempt) -> Result<List<Key>, Memory>
-        requires node { attempt.now.node ≡ self.now.number }
-        requires serves { IsTrue (serves attempt.now.inc (node_state self.now.history)) }
-        requires there { IsFalse (is_gone (attempt_state attempt.now (part self.now.history))) }
-        ensures { IfOk result (λ keys. keys ≡ written_keys (buffer attempt.now (part self.now.history))) }
-    {
-        let writes = self.writes(attempt)?;
-        keys_of(self.alloc, writes.as_slice())
-    }
-
     /// The greatest ids that an attempt has read, as many as a record names, ascending. Only memory may be wanting.
     pub fn origin_reads(&self, attempt: &Attempt) -> Result<List<TxnId>, Memory>
         requires node { attempt.now.node ≡ self.now.number }
@@ -180,6 +169,17 @@ impl Ledger {
     {
         let keys = self.written_keys(attempt)?;
         Ok(is_stored_by(&self.table.state(attempt.number), commit, keys.as_slice()))
+    }
+
+    /// The keys that an attempt has buffered, ascending.
+    pub(super) fn written_keys(&self, attempt: &Attempt) -> Result<List<Key>, Memory>
+        requires node { attempt.now.node ≡ self.now.number }
+        requires serves { IsTrue (serves attempt.now.inc (node_state self.now.history)) }
+        requires there { IsFalse (is_gone (attempt_state attempt.now (part self.now.history))) }
+        ensures { IfOk result (λ keys. keys ≡ written_keys (buffer attempt.now (part self.now.history))) }
+    {
+        let writes = self.writes(attempt)?;
+        keys_of(self.alloc, writes.as_slice())
     }
 }
 
