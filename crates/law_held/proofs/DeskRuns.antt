@@ -238,9 +238,9 @@ module _ (asked : Asked) (ran : Ran) (so : Goes asked ran) where
           (round.holds ∙ (follows.1 ∙ ap (λ (d : Option AtDesk). desk_behind d (AtDoor (length (door_steps before)) act)) (sym round.held)))
           (others_same before one) uuid (lies uuid))
 
-    lies_at_node : (node : ℕ) (history : List NodeEntry) (entry : NodeEntry) → one.turn ≡ AtNode node history entry → ByRound ⊎ NoRound → Lies before → Lies after
-    lies_at_node node history entry turned (inl round) lies uuid = absurd (round.no_node node history entry turned)
-    lies_at_node node history entry turned (inr other) lies uuid =
+    lies_at_node : (node : ℕ) (history : List NodeEntry) (e : NodeEntry) → one.turn ≡ AtNode node history e → ByRound ⊎ NoRound → Lies before → Lies after
+    lies_at_node node history e turned (inl round) lies uuid = absurd (round.no_node node history e turned)
+    lies_at_node node history e turned (inr other) lies uuid =
         subst (λ (d : List DoorEntry). LiesAtDesk d (desk_of asking after) uuid) (sym (door-snoc before one ∙ (ap (λ (t : Turn). door_steps before ++ door_entry_in one.by t) turned ∙ append-nil (door_steps before))))
         (lies_same (door_steps before) (desk_of asking before) (desk_of asking after) (all_same (other.none ∙ sym other.nothing)) uuid (lies uuid))
 
@@ -249,8 +249,8 @@ module _ (asked : Asked) (ran : Ran) (so : Goes asked ran) where
       where
         by_turn : (turn : Turn) → one.turn ≡ turn → Lies after
         by_turn (AtDoor place act) turned = lies_at_door place act turned who_holds lies
-        by_turn (AtNode node history entry) turned = lies_at_node node history entry turned who_holds lies
-        by_turn (AtOffice history entry) turned =
+        by_turn (AtNode node history e) turned = lies_at_node node history e turned who_holds lies
+        by_turn (AtOffice history e) turned =
             absurd (true≢false (sym (ap is_at_office turned) ∙ no_office_step ran.trace one (subst (λ (l : List Made). In one l) (sym is) (in_back one before (one ∷ rest) (inl refl)))))
 
   lies_from : (more before rest : List Made) → run_steps ran ≡ before ++ (more ++ rest) → Lies before → Lies (before ++ more)

@@ -30,3 +30,4 @@ pub mod Boots
 pub mod Begun
 pub mod Starts
 pub mod StartsEnd
+pub mod Collects

@@ -98,22 +98,25 @@ own_first : (by : By) (m : Made) (b : Bool) → same_line by m.by ≡ b → (mad
 own_first by m true e made = ap (λ (b : Bool). map (λ (o : Made). o.turn) (if b then m ∷ filter (λ (o : Made). same_line by o.by) made else filter (λ (o : Made). same_line by o.by) made)) e
 own_first by m false e made = ap (λ (b : Bool). map (λ (o : Made). o.turn) (if b then m ∷ filter (λ (o : Made). same_line by o.by) made else filter (λ (o : Made). same_line by o.by) made)) e
 
+-- one more step of the line in front
+split_behind : (by : By) (m : Made) (steps : List Made) (x : Turn) (xs : List Turn) (t : Turn) → same_line by m.by ≡ true → m.turn ≡ x → Split by steps xs t → Split by (m ∷ steps) (x ∷ xs) t
+split_behind by m steps x xs t e first s = record {
+  pre = m ∷ s.pre;
+  one = s.one;
+  rest = s.rest;
+  whole = ap (λ (l : List Made). m ∷ l) s.whole;
+  its = s.its;
+  turn = s.turn;
+  own = own_first by m true e s.pre ∙ (ap (λ (y : Turn). y ∷ own_steps by s.pre) first ∙ ap (λ (l : List Turn). x ∷ l) s.own);
+}
+
 split_first : (by : By) (m : Made) (steps : List Made) (t : Turn) (ys : List Turn) (b : Bool) → same_line by m.by ≡ b → (xs : List Turn) → (if b then m.turn ∷ own_steps by steps else own_steps by steps) ≡ xs ++ t ∷ ys
     → ((zs : List Turn) → own_steps by steps ≡ zs ++ t ∷ ys → Split by steps zs t) → Split by (m ∷ steps) xs t
 split_first by m steps t ys true e [] at more = record { pre = []; one = m; rest = steps; whole = refl; its = e; turn = cc; own = refl }
 split_first by m steps t ys true e (x ∷ xs) at more =
     let first : m.turn ≡ x = cc in
     let later : own_steps by steps ≡ xs ++ t ∷ ys = cc in
-    let s = more xs later in
-    record {
-      pre = m ∷ s.pre;
-      one = s.one;
-      rest = s.rest;
-      whole = ap (λ (l : List Made). m ∷ l) s.whole;
-      its = s.its;
-      turn = s.turn;
-      own = own_first by m true e s.pre ∙ (ap (λ (y : Turn). y ∷ own_steps by s.pre) first ∙ ap (λ (l : List Turn). x ∷ l) s.own);
-    }
+    split_behind by m steps x xs t e first (more xs later)
 split_first by m steps t ys false e xs at more =
     let s = more xs at in
     record {

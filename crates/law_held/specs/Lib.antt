@@ -6,3 +6,4 @@ pub mod Twice
 pub mod Standing
 pub mod Fenced
 pub mod Starting
+pub mod Collecting

@@ -1,9 +1,12 @@
 //! Laws of claims over whole runs, as calls that do nothing and promise them.
 
 ghost use Rattle.std.specs.Prelude.{◌≡◌, ◌++◌, ◌||◌, IsFalse, IsTrue, List, [], ℕ};
+ghost use Rattle.aft_model.specs.declared.caller.By.{By};
+ghost use Rattle.aft_model.specs.declared.office.OfficeEntry.{OfficeEntry};
 ghost use Rattle.aft_model.specs.Membership.{incarnation, is_up};
 ghost use Rattle.aft_model.specs.NodeSights.{is_fenced};
 ghost use Rattle.aft_model.specs.NodeState.{boots, node_state, serves};
+ghost use Rattle.aft_model.specs.Office.{is_legal_alone};
 ghost use Rattle.aft_lines.specs.Asked.{Asked, Ran};
 ghost use Rattle.aft_lines.specs.Holding.{ClaimsHeld, DeskHeld, FetchesStayOpen};
 ghost use Rattle.aft_lines.specs.LegalTrace.{LegalTrace, are_asks};
@@ -13,6 +16,7 @@ ghost use Rattle.law_holders.specs.Rows.{is_of_node};
 ghost use Rattle.law_claims.specs.Desk.{LiesAtDesk};
 ghost use Rattle.law_claims.specs.Moments.{node_steps, scene_of};
 ghost use Rattle.law_runs.specs.Runs.{asking_of, run_steps};
+ghost use Rattle.law_held.specs.Collecting.{RunsUntilEnded};
 ghost use Rattle.law_held.specs.Copies.{CopiersLie, CopiesStand, CrashesSpare, MarksBesideNone, copier_of, has_copier};
 ghost use Rattle.law_held.specs.Desk.{LinesDiffer, desk_of, is_script};
 ghost use Rattle.law_held.specs.Fenced.{fencing, fencing_ran};
@@ -143,4 +147,9 @@ pub fn lines_stand()
 pub fn turns_find()
     ensures so_far { (asked : Asked) (ran : Ran) → RunsSoFar asked ran → LinesDiffer asked → TurnsFind asked ran }
     ensures legal { (asked : Asked) (ran : Ran) → LegalTrace asked ran → LinesDiffer asked → TurnsFind asked ran }
+{}
+
+/// In each history of the office a line's collection runs just while the line has begun it and not ended it.
+pub fn collections_run()
+    ensures { (office : List OfficeEntry) (by : By) → IsTrue (is_legal_alone office) → RunsUntilEnded by office }
 {}
