@@ -5,4 +5,6 @@
 
 mod laws;
 
-pub use laws::{doors_are_lawful, ids_commit_once, whole_until_superseded};
+pub use laws::{
+    contents_stay_sound, doors_are_lawful, ids_commit_once, ids_stay_closed, whole_until_superseded,
+};

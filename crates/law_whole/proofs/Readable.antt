@@ -1,5 +1,5 @@
 -- What the names of the records and the markers may hold has a reading, at the open door; so what is shown of them has one.
-use Rattle.std.proofs.Common.{◌≡◌, ℕ, Bool, true, false, ◌||◌, ◌==◌, not, List, [], ◌∷◌, ◌++◌, refl, sym, ap, subst, ◌∙◌, inl, inr, append_assoc, append-nil, length, ◌+◌, ◌≤◌, eqb, arith}
+use Rattle.std.proofs.Common.{◌≡◌, ℕ, Bool, true, false, ◌||◌, ◌==◌, not, List, [], ◌∷◌, ◌++◌, refl, sym, ap, subst, ◌∙◌, inl, inr, append_assoc, append-nil, length, ◌&&◌, ◌+◌, ◌≤◌, eqb, arith}
 use Rattle.std.specs.Prelude.{IsTrue, IsFalse, Option, Some, if◌then◌else◌, nat_eq, codes}
 use Rattle.std.specs.List.{list_any, starts_with}
 use Rattle.std.proofs.lemmas.Bool.{and_from, and_parts, cases_Bool, false≢true, ne_eqb, or_cases, or_left, or_parts, or_right, true≢false}
@@ -7,6 +7,7 @@ use Rattle.aft_keeper.specs.declared.keeper.Pair.{Pair}
 use Rattle.aft_keeper.specs.Contents.{name_lt}
 use Rattle.aft_model.specs.declared.door.DoorAct.TheVariants.{Opened}
 use Rattle.aft_model.specs.declared.door.DoorEntry.{DoorEntry}
+use Rattle.aft_model.specs.Bytes.{acts_bytes, are_bytes}
 use Rattle.aft_model.specs.DoorKnowledge.{is_open, opens}
 use Rattle.aft_model.specs.DoorRules.{may_put, may_put_marker, may_put_record, may_put_version, may_upgrade}
 use Rattle.aft_model.specs.Evidence.{shown_pairs, stored_in}
@@ -28,9 +29,9 @@ use Rattle.law_kept.specs.Kept.{Comes, Lawful}
 use Rattle.law_kept.specs.Outcomes.{MayBe}
 use Rattle.law_kept.proofs.Always.{lawful_begins}
 use Rattle.law_kept.proofs.Fates.{Known, fate, known_after, left_there, under}
-use Rattle.law_kept.proofs.Steps.{Deletes, Puts, Writing, answered, come, writing}
+use Rattle.law_kept.proofs.Steps.{Deletes, Puts, Writing, answered, come, made_act, writing}
 use Rattle.law_opened.proofs.Acts.{proven_effect}
-use Rattle.law_opened.proofs.Opened.{at_opening, clean, held_may, pair_of_shown, run_shows, was_shown}
+use Rattle.law_opened.proofs.Opened.{at_opening, clean, held_may, pair_made, pair_of_shown, run_shows, was_shown}
 use Rattle.law_whole.specs.Readable.{is_of_ids, is_readable, shows_readable}
 use Rattle.law_whole.proofs.Lists.{each_from}
 use Rattle.law_whole.proofs.Throughout.{lawful_to, opening_of, opens_still}
@@ -65,9 +66,9 @@ begins_some (x ∷ name) prefix first begins = refl
 
 -- ---- what the names may hold
 
--- what a name may hold is known, and each text of it has a reading
+-- what a name may hold is known, and each text of it is made of bytes and has a reading
 abbrev pub Legible : List ℕ → List DoorEntry → Type 0
-Legible name history = Known name history × ((bytes : List ℕ) → MayBe name history (Some bytes) → IsTrue (has_reading (under name bytes)))
+Legible name history = Known name history × ((bytes : List ℕ) → MayBe name history (Some bytes) → IsTrue (are_bytes bytes) × IsTrue (has_reading (under name bytes)))
 
 -- a put that comes by its rule has a reading
 put_reads : (history : List DoorEntry) (who : Incarnation) (pair : Pair) → IsTrue (may_put history who pair) → IsTrue (has_reading pair)
@@ -84,14 +85,17 @@ module _ (name : List ℕ) where
   legible_next : (history : List DoorEntry) (entry : DoorEntry) → Comes history entry → Legible name history → Legible name (history ++ entry ∷ [])
   legible_next history entry comes before = (known_after history entry name before.0, reads)
     where
-      written : (o : Option (List ℕ)) → Writing name entry.act o → (bytes : List ℕ) → Some bytes ≡ o → IsTrue (has_reading (under name bytes))
+      written : (o : Option (List ℕ)) → Writing name entry.act o → (bytes : List ℕ) → Some bytes ≡ o → IsTrue (are_bytes bytes) × IsTrue (has_reading (under name bytes))
       written o (Puts node inc put answer is) bytes same =
           let it : put ≡ bytes = cc in
           let ruled = subst (λ act. IsTrue (may_come history act)) is (come history entry comes) in
-          subst (λ b. IsTrue (has_reading (under name b))) it (put_reads history (incarnation node inc) (under name put) (and_parts (is_up (incarnation node inc) history) (may_put history (incarnation node inc) (under name put)) ruled).1)
+          let made = (and_parts (are_bytes name) (are_bytes put) (and_parts (are_bytes name && are_bytes put) _ (subst (λ act. IsTrue (acts_bytes act)) is (made_act history entry comes))).0).1 in (
+            subst (λ b. IsTrue (are_bytes b)) it made,
+            subst (λ b. IsTrue (has_reading (under name b))) it (put_reads history (incarnation node inc) (under name put) (and_parts (is_up (incarnation node inc) history) (may_put history (incarnation node inc) (under name put)) ruled).1),
+          )
       written o (Deletes node inc answer is) bytes same = absurd (cc)
 
-      reads : (bytes : List ℕ) → MayBe name (history ++ entry ∷ []) (Some bytes) → IsTrue (has_reading (under name bytes))
+      reads : (bytes : List ℕ) → MayBe name (history ++ entry ∷ []) (Some bytes) → IsTrue (are_bytes bytes) × IsTrue (has_reading (under name bytes))
       reads bytes may = elim (fate history entry name comes.honest before.0 (Some bytes) may) [
         | inl was ↦ before.1 bytes was
         | inr new ↦ written (Some bytes) (writing name entry.act (Some bytes) new) bytes refl
@@ -140,7 +144,12 @@ module _ (name : List ℕ) where
         by_prefix false is whole = by_marks (elim (or_cases (starts_with nat_eq name records_prefix) (starts_with nat_eq name markers_prefix) named) [ inl records ↦ absurd (true≢false (sym records ∙ is)) | inr it ↦ it ]) whole
 
     legible_first : Legible name (history ++ entry ∷ [])
-    legible_first = (seen, λ bytes may. unoffending bytes (clean history entry lawful opened (under name bytes) (pair_of_shown history entry lawful opened name bytes (was_shown history entry lawful opened name (Some bytes) may))))
+    legible_first = (
+      seen,
+      λ bytes may. (
+          let there = pair_of_shown history entry lawful opened name bytes (was_shown history entry lawful opened name (Some bytes) may) in
+          (pair_made history entry lawful opened (under name bytes) there, unoffending bytes (clean history entry lawful opened (under name bytes) there))),
+    )
 
 pub legible : (name : List ℕ) → IsTrue (is_of_ids name) → (history : List DoorEntry) → IsTrue (is_open history) → Lawful history → Legible name history
 legible name named history opened lawful =
@@ -160,7 +169,7 @@ module _ (before : List DoorEntry) (entry : DoorEntry) (lawful : Lawful (before 
   shown_reads pair among named =
       let proves = pair_proves entry.act (answered before entry comes_so) pair (in_back pair (stored_in entry.act) (shown_pairs entry) among) in
       let there = left_there before entry pair.name (Some pair.bytes) (proven_effect (effect_of pair.name entry.act) pair.bytes proves) in
-      (legible pair.name named (before ++ entry ∷ []) (any_grows (λ (e : DoorEntry). opens e.act) before (entry ∷ []) opened) lawful).1 pair.bytes there
+      ((legible pair.name named (before ++ entry ∷ []) (any_grows (λ (e : DoorEntry). opens e.act) before (entry ∷ []) opened) lawful).1 pair.bytes there).1
 
   pub entry_reads : IsTrue (shows_readable entry)
   entry_reads = all_from (λ pair. not (is_of_ids pair.name) || has_reading pair) (shown_pairs entry) (λ pair among. elim (cases_Bool (is_of_ids pair.name)) [
