@@ -6,5 +6,6 @@
 mod laws;
 
 pub use laws::{
-    contents_stay_sound, doors_are_lawful, ids_commit_once, ids_stay_closed, whole_until_superseded,
+    contents_stay_sound, doors_are_lawful, ids_are_undamaged, ids_commit_once, ids_stay_closed,
+    whole_until_superseded,
 };

@@ -9,3 +9,4 @@ pub mod Clear
 pub mod Valued
 pub mod Values
 pub mod Marks
+pub mod Unmarked

@@ -158,7 +158,7 @@ module _ (history : List DoorEntry) (entry : DoorEntry) (lawful : Lawful (histor
 
 -- ---- behind all entries
 
-comes_next : (history more : List DoorEntry) (entry : DoorEntry) → IsTrue (is_open history) → Lawful ((history ++ entry ∷ []) ++ more) → Comes history entry
+pub comes_next : (history more : List DoorEntry) (entry : DoorEntry) → IsTrue (is_open history) → Lawful ((history ++ entry ∷ []) ++ more) → Comes history entry
 comes_next history more entry opened whole =
     let now = lawful_begins (history ++ entry ∷ []) more whole in
     record { opened = opened; legal = now.legal; honest = now.honest; made = now.made; stages = now.stages; retires = now.retires }

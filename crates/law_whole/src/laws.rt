@@ -30,7 +30,7 @@ ghost use Rattle.aft_lines.specs.Headline.{all_whole, commits_once, has_one_each
 ghost use Rattle.aft_lines.specs.LegalTrace.{are_legal_nodes};
 ghost use Rattle.law_effects.specs.Effects.{Shows, effect_of};
 ghost use Rattle.law_kept.specs.Kept.{Kept, Lawful};
-ghost use Rattle.law_kept.specs.Tried.{Tried};
+ghost use Rattle.law_kept.specs.Tried.{Tried, markers_put};
 ghost use Rattle.law_whole.specs.Marks.{MarkedAt};
 ghost use Rattle.law_whole.specs.Readable.{is_readable};
 ghost use Rattle.law_whole.specs.Values.{VersionIs};
@@ -79,10 +79,12 @@ pub fn readable_throughout()
 {}
 
 /// A committed commit whose UUID isn't marked is whole, superseded or not; and where the marker of a UUID that isn't forgotten is
-/// shown absent, the UUID isn't marked. So who was shown a record, and no marker of its UUID, finds each of its versions.
+/// shown absent, the UUID isn't marked, and stays so while no full marker of it is put and it isn't forgotten. So who was shown a
+/// record, and no marker of its UUID, finds each of its versions.
 pub fn unmarked_is_whole()
     ensures whole { (c : Commit) (history : List DoorEntry) → Lawful history → IsTrue (is_open history) → Committed c history → IsFalse (knows_marked c.id.uuid history) → Whole c history }
     ensures absent { (uuid : List ℕ) (history : List DoorEntry) (entry : DoorEntry) → IsTrue (is_uuid uuid) → Lawful (history ++ entry ∷ []) → IsTrue (is_open history) → IsFalse (forgotten uuid history) → IsTrue (shows_absent (marker_name uuid) entry) → IsFalse (knows_marked uuid history) }
+    ensures since { (uuid : List ℕ) (history : List DoorEntry) (entry : DoorEntry) (more : List DoorEntry) → IsTrue (is_uuid uuid) → Lawful (history ++ entry ∷ more) → IsTrue (is_open history) → IsTrue (shows_absent (marker_name uuid) entry) → IsFalse (forgotten uuid (history ++ entry ∷ more)) → ((e : DoorEntry) → In e more → (c : Commit) → In (Full c) (markers_put e.act) → c.id.uuid ≡ uuid → ⊥) → IsFalse (knows_marked uuid (history ++ entry ∷ more)) }
 {}
 
 /// Where nothing was deleted, the record of a committed commit isn't shown absent at the open door.
