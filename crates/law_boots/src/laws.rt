@@ -1,0 +1,26 @@
+//! Laws of nodes beside the door, as calls that do nothing and promise them.
+
+ghost use Rattle.std.specs.Prelude.{◌≡◌, ◌++◌, ◌∷◌, ◌⊎◌, ℕ, List, [], IsTrue, take};
+ghost use Rattle.aft_records.specs.declared.stored.Commit.{Commit};
+ghost use Rattle.aft_records.specs.Commits.{is_among};
+ghost use Rattle.aft_model.specs.declared.door.DoorEntry.{DoorEntry};
+ghost use Rattle.aft_model.specs.declared.node.NodeEntry.{NodeEntry};
+ghost use Rattle.aft_model.specs.Bytes.{HasBytes};
+ghost use Rattle.aft_model.specs.Committed.{Committed, committed};
+ghost use Rattle.aft_model.specs.Known.{known};
+ghost use Rattle.law_kept.specs.Kept.{Lawful};
+ghost use Rattle.law_reads.specs.Brings.{are_real, brings};
+ghost use Rattle.law_boots.specs.Beside.{Beside};
+
+/// What an entry of a node brings, and what the node knows before it, is committed in what the entry has seen at the door.
+pub fn known_is_committed()
+    ensures brought { (node capacity : ℕ) (c : Commit) (door : List DoorEntry) (history : List NodeEntry) (entry : NodeEntry) → Beside node capacity door (history ++ entry ∷ []) → IsTrue (is_among c (brings entry.act)) → Committed c (take entry.front door) }
+    ensures known { (node capacity : ℕ) (c : Commit) (door : List DoorEntry) (history : List NodeEntry) (entry : NodeEntry) → Beside node capacity door (history ++ entry ∷ []) → IsTrue (is_among c (known history)) → Committed c (take entry.front door) }
+{}
+
+/// So beside a lawful history of the door two commits of one UUID that a node knows, or that are committed, are equal. And no
+/// node is told of a commit of the id of absent keys.
+pub fn ids_have_one_commit()
+    ensures one { (node capacity : ℕ) (c d : Commit) (door : List DoorEntry) (history : List NodeEntry) → Lawful door → Beside node capacity door history → IsTrue (is_among c (known history)) ⊎ Committed c door → IsTrue (is_among d (known history)) ⊎ Committed d door → c.id.uuid ≡ d.id.uuid → c ≡ d }
+    ensures real { (node capacity : ℕ) (door : List DoorEntry) (history : List NodeEntry) → HasBytes door → Beside node capacity door history → IsTrue (are_real history) }
+{}
