@@ -1,3 +1,4 @@
 pub mod Nodes
 pub mod Known
 pub mod Real
+pub mod Atomic

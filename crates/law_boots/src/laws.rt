@@ -4,10 +4,17 @@ ghost use Rattle.std.specs.Prelude.{◌≡◌, ◌++◌, ◌∷◌, ◌⊎◌, �
 ghost use Rattle.aft_records.specs.declared.stored.Commit.{Commit};
 ghost use Rattle.aft_records.specs.Commits.{is_among};
 ghost use Rattle.aft_model.specs.declared.door.DoorEntry.{DoorEntry};
+ghost use Rattle.aft_model.specs.declared.caller.Attempt.{Attempt};
 ghost use Rattle.aft_model.specs.declared.node.NodeEntry.{NodeEntry};
+ghost use Rattle.aft_model.specs.declared.trace.Trace.{Trace};
+ghost use Rattle.aft_model.specs.AtomicReads.{Atomic};
+ghost use Rattle.aft_model.specs.Attempts.{reads};
 ghost use Rattle.aft_model.specs.Bytes.{HasBytes};
 ghost use Rattle.aft_model.specs.Committed.{Committed, committed};
 ghost use Rattle.aft_model.specs.Known.{known};
+ghost use Rattle.aft_model.specs.NodeState.{part};
+ghost use Rattle.aft_lines.specs.Headline.{reads_atomic_sets};
+ghost use Rattle.aft_lines.specs.LegalTrace.{are_legal_nodes};
 ghost use Rattle.law_kept.specs.Kept.{Lawful};
 ghost use Rattle.law_reads.specs.Brings.{are_real, brings};
 ghost use Rattle.law_boots.specs.Beside.{Beside};
@@ -23,4 +30,10 @@ pub fn known_is_committed()
 pub fn ids_have_one_commit()
     ensures one { (node capacity : ℕ) (c d : Commit) (door : List DoorEntry) (history : List NodeEntry) → Lawful door → Beside node capacity door history → IsTrue (is_among c (known history)) ⊎ Committed c door → IsTrue (is_among d (known history)) ⊎ Committed d door → c.id.uuid ≡ d.id.uuid → c ≡ d }
     ensures real { (node capacity : ℕ) (door : List DoorEntry) (history : List NodeEntry) → HasBytes door → Beside node capacity door history → IsTrue (are_real history) }
+{}
+
+/// So what each attempt of a service has read, whether it is there or gone, is atomic beside all that is committed at the door.
+pub fn reads_are_atomic()
+    ensures each { (node capacity : ℕ) (a : Attempt) (door : List DoorEntry) (history : List NodeEntry) → Lawful door → Beside node capacity door history → Atomic (reads a (part history)) (committed door) }
+    ensures nodes { (first capacity : ℕ) (trace : Trace) → Lawful trace.door → IsTrue (are_legal_nodes first capacity trace.door trace.nodes) → IsTrue (reads_atomic_sets trace) }
 {}

@@ -6,4 +6,4 @@
 
 mod laws;
 
-pub use laws::{ids_have_one_commit, known_is_committed};
+pub use laws::{ids_have_one_commit, known_is_committed, reads_are_atomic};
