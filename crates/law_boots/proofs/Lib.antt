@@ -2,3 +2,8 @@ pub mod Nodes
 pub mod Known
 pub mod Real
 pub mod Atomic
+pub mod Picks
+pub mod Blocks
+pub mod Own
+pub mod Told
+pub mod Again

@@ -13,11 +13,13 @@ ghost use Rattle.aft_model.specs.Bytes.{HasBytes};
 ghost use Rattle.aft_model.specs.Committed.{Committed, committed};
 ghost use Rattle.aft_model.specs.Known.{known};
 ghost use Rattle.aft_model.specs.NodeState.{part};
-ghost use Rattle.aft_lines.specs.Headline.{reads_atomic_sets};
+ghost use Rattle.aft_lines.specs.Headline.{names_blockers, reads_atomic_sets};
+ghost use Rattle.aft_lines.specs.Holding.{FetchesStayOpen};
 ghost use Rattle.aft_lines.specs.LegalTrace.{are_legal_nodes};
 ghost use Rattle.law_kept.specs.Kept.{Lawful};
 ghost use Rattle.law_reads.specs.Brings.{are_real, brings};
 ghost use Rattle.law_boots.specs.Beside.{Beside};
+ghost use Rattle.law_boots.specs.Gets.{answers_own, reads_recorded_ids, repeats_versions};
 
 /// What an entry of a node brings, and what the node knows before it, is committed in what the entry has seen at the door.
 pub fn known_is_committed()
@@ -36,4 +38,25 @@ pub fn ids_have_one_commit()
 pub fn reads_are_atomic()
     ensures each { (node capacity : ℕ) (a : Attempt) (door : List DoorEntry) (history : List NodeEntry) → Lawful door → Beside node capacity door history → Atomic (reads a (part history)) (committed door) }
     ensures nodes { (first capacity : ℕ) (trace : Trace) → Lawful trace.door → IsTrue (are_legal_nodes first capacity trace.door trace.nodes) → IsTrue (reads_atomic_sets trace) }
+{}
+
+/// Legal nodes read at ids of commits that were recorded before, or at that of absent keys.
+pub fn ids_were_recorded()
+    ensures { (first capacity : ℕ) (trace : Trace) → IsTrue (are_legal_nodes first capacity trace.door trace.nodes) → IsTrue (reads_recorded_ids trace) }
+{}
+
+/// An answer of theirs that no version fits names, for each known version of the key, a conflicting earlier read.
+pub fn blockers_are_named()
+    ensures { (first capacity : ℕ) (trace : Trace) → HasBytes trace.door → IsTrue (are_legal_nodes first capacity trace.door trace.nodes) → IsTrue (names_blockers trace) }
+{}
+
+/// A get that follows an own put answers it.
+pub fn own_puts_are_answered()
+    ensures { (first capacity : ℕ) (trace : Trace) → IsTrue (are_legal_nodes first capacity trace.door trace.nodes) → IsTrue (answers_own trace) }
+{}
+
+/// Where each fetch that ends stood open since its line's pick, gets of one key with no own put between are answered of one
+/// version, or all that the key is absent.
+pub fn gets_repeat_versions()
+    ensures { (first capacity : ℕ) (trace : Trace) → HasBytes trace.door → FetchesStayOpen trace → IsTrue (are_legal_nodes first capacity trace.door trace.nodes) → IsTrue (repeats_versions trace) }
 {}

@@ -6,4 +6,7 @@
 
 mod laws;
 
-pub use laws::{ids_have_one_commit, known_is_committed, reads_are_atomic};
+pub use laws::{
+    blockers_are_named, gets_repeat_versions, ids_have_one_commit, ids_were_recorded,
+    known_is_committed, own_puts_are_answered, reads_are_atomic,
+};
