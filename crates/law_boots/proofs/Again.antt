@@ -1,23 +1,22 @@
 -- Gets of one key with no own put between are answered of one version.
-use Rattle.std.proofs.Common.{◌≡◌, ℕ, Bool, true, false, ◌&&◌, List, [], ◌∷◌, ◌++◌, suc, refl, sym, ap, subst, ◌∙◌, append-nil, append_assoc}
+use Rattle.std.proofs.Common.{◌≡◌, ℕ, Bool, ◌&&◌, List, [], ◌∷◌, ◌++◌, suc, refl, sym, ap, subst, ◌∙◌, append-nil, append_assoc}
 use Rattle.std.specs.Prelude.{IsTrue, IsFalse, Option, if◌then◌else◌}
 use Rattle.std.specs.List.{fold, list_all}
 use Rattle.std.specs.Str.{bytes_eq}
 use Rattle.std.proofs.lemmas.Bool.{and_from, and_parts}
-use Rattle.aft_id.specs.declared.txn_id.TxnId.{TxnId}
 use Rattle.aft_model.specs.declared.caller.Attempt.{Attempt}
 use Rattle.aft_model.specs.declared.door.DoorEntry.{DoorEntry}
 use Rattle.aft_model.specs.declared.node.NodeAct.{NodeAct}
 use Rattle.aft_model.specs.declared.node.NodeAct.TheVariants.{Put, Select, Value}
 use Rattle.aft_model.specs.declared.node.NodeEntry.{NodeEntry}
 use Rattle.aft_model.specs.declared.reply.Reply.{Reply}
-use Rattle.aft_model.specs.Attempts.{reads, same_attempt}
+use Rattle.aft_model.specs.Attempts.{reads}
 use Rattle.aft_model.specs.Bytes.{HasBytes}
 use Rattle.aft_model.specs.History.{each_after}
 use Rattle.aft_model.specs.Known.{known_in}
 use Rattle.aft_model.specs.LegalNode.{is_legal_node, may_be_done, may_serve}
 use Rattle.aft_model.specs.NodeSights.{is_seen_node}
-use Rattle.aft_model.specs.NodeState.{IsBooting, IsDown, IsServing, NodeState, Service, extended, newest, node_state, part, state_after}
+use Rattle.aft_model.specs.NodeState.{IsServing, NodeState, Service, extended, newest, node_state, part, state_after}
 use Rattle.aft_model.proofs.Histories.{In, each_after_snoc, each_after_split}
 use Rattle.aft_model.proofs.Incarnations.{part-at}
 use Rattle.aft_model.proofs.Lists.{all_from}
@@ -36,7 +35,7 @@ use Rattle.law_boots.specs.Gets.{repeats_version, repeats_version_in, same_versi
 use Rattle.law_boots.proofs.Nodes.{before, begins, done, kept, rule}
 use Rattle.law_boots.proofs.Picks.{in_one}
 use Rattle.law_boots.proofs.Real.{each_real}
-use Rattle.law_boots.proofs.Told.{Said, Tells, said_now, said_still, same_said, tells_next}
+use Rattle.law_boots.proofs.Told.{Tells, said_now, said_still, same_said, tells_next}
 
 -- ---- what is told an attempt is told by its own acts
 

@@ -1,6 +1,6 @@
 -- The reads of each attempt are atomic beside all that is committed at the door.
-use Rattle.std.proofs.Common.{◌≡◌, ℕ, Bool, true, false, ◌&&◌, ◌||◌, not, List, [], ◌∷◌, ◌++◌, refl, sym, ap, subst, ◌∙◌, ◌⊎◌, inl, inr}
-use Rattle.std.specs.Prelude.{IsTrue, IsFalse, Option, if◌then◌else◌}
+use Rattle.std.proofs.Common.{◌≡◌, ℕ, Bool, true, false, ◌&&◌, ◌||◌, not, List, [], ◌∷◌, ◌++◌, refl, sym, ap, subst, ◌∙◌, inl, inr}
+use Rattle.std.specs.Prelude.{IsTrue, Option, if◌then◌else◌}
 use Rattle.std.specs.List.{flat_map, fold, list_all}
 use Rattle.std.proofs.lemmas.Bool.{and_parts, cases_Bool, not-true, or_left, or_right, true≢false}
 use Rattle.aft_id.specs.TxnId.{same_id, zero_id}
@@ -22,7 +22,7 @@ use Rattle.aft_model.specs.LegalNode.{may_serve}
 use Rattle.aft_model.specs.NodeRules.{pick, same_picked}
 use Rattle.aft_model.specs.NodeState.{IsServing, NodeState, Service, extended, newest, node_state, part, part_in, service_in}
 use Rattle.aft_model.proofs.Choices.{whole_at}
-use Rattle.aft_model.proofs.Histories.{In, all_at, any_found}
+use Rattle.aft_model.proofs.Histories.{In, any_found}
 use Rattle.aft_model.proofs.Ids.{same_id-refl, same_ids}
 use Rattle.aft_model.proofs.Lists.{all_from}
 use Rattle.aft_model.proofs.Pins.{There, attempt_state-snoc, reads-snoc, running_there, same_attempts}
@@ -88,7 +88,7 @@ module _ (node capacity : ℕ) (door : List DoorEntry) (lawful : Lawful door) wh
     served s may is was a =
         elim (cases_Bool (is_gone (attempt_state a (s.part ++ entry ∷ [])))) [
           | inl gone ↦ subst (λ (r : List ReadPair). Atomic r (committed door))
-            (sym (reads-snoc a s.part entry ∙ idle node capacity s a entry.act entry.answer may (subst (λ st. IsTrue (is_gone st)) (attempt_state-snoc a s.part entry) gone))) (was a)
+              (sym (reads-snoc a s.part entry ∙ idle node capacity s a entry.act entry.answer may (subst (λ st. IsTrue (is_gone st)) (attempt_state-snoc a s.part entry) gone))) (was a)
           | inr there ↦ (let its = reading node capacity longer (extended s entry) beside.legal (each_real node capacity door lawful.made longer beside) is in
               atomic_beside (reads a (s.part ++ entry ∷ [])) (known_in (extended s entry)) (committed door) (its.written a there) (its.atomic a there)
               (λ c knows. known_committed node capacity door longer beside c (subst (λ (state : NodeState). In c (known_of (service_in state))) (sym is) knows))

@@ -1,14 +1,13 @@
 -- An answer that no version fits names a blocker of each known version.
-use Rattle.std.proofs.Common.{◌≡◌, ℕ, Bool, false, ◌&&◌, List, [], ◌∷◌, ◌++◌, refl, sym, ap, subst, ◌∙◌, eqb, eq-eqb, length}
-use Rattle.std.specs.Prelude.{IsTrue, IsFalse, Option, Some, None, map, filter}
+use Rattle.std.proofs.Common.{◌≡◌, ℕ, Bool, false, ◌&&◌, List, [], ◌∷◌, ◌++◌, refl, sym, ap, subst, ◌∙◌, eq-eqb, length}
+use Rattle.std.specs.Prelude.{IsTrue, Option, Some, None, filter}
 use Rattle.std.specs.Cmp.Lexicographic.{pointwise}
-use Rattle.std.specs.List.{list_all}
 use Rattle.std.specs.Str.{bytes_eq}
 use Rattle.std.proofs.lemmas.Bool.{and_from, and_parts, false≢true}
 use Rattle.std.proofs.lemmas.List.{length-map}
 use Rattle.aft_id.specs.TxnId.{same_id}
 use Rattle.aft_id.specs.declared.txn_id.TxnId.{TxnId}
-use Rattle.aft_records.specs.Commits.{has_id, ids_of, is_listed, versions}
+use Rattle.aft_records.specs.Commits.{has_id, ids_of, is_listed}
 use Rattle.aft_records.specs.Kept.{Kept, kept_value}
 use Rattle.aft_records.specs.Superseded.{wrote}
 use Rattle.aft_records.specs.declared.stored.Commit.{Commit}
@@ -31,15 +30,15 @@ use Rattle.aft_model.specs.Choice.{choice}
 use Rattle.aft_model.specs.Known.{known, known_in}
 use Rattle.aft_model.specs.LegalNode.{may_be_done, may_serve}
 use Rattle.aft_model.specs.NodeRules.{answers_pick, are_ids_of, is_end, kept_or_fetched, own_or, pick, picked_by, same_picked}
-use Rattle.aft_model.specs.NodeState.{IsServing, NodeState, Service, node_state, part, serves}
+use Rattle.aft_model.specs.NodeState.{NodeState, Service, node_state, part, serves}
 use Rattle.aft_model.specs.Replies.{same_blocked, same_blockers}
-use Rattle.aft_model.proofs.Histories.{In, any_from}
+use Rattle.aft_model.proofs.Histories.{any_from}
 use Rattle.aft_model.proofs.Ids.{same_id-refl, same_ids}
 use Rattle.aft_model.proofs.Incarnations.{known-at, part-at}
 use Rattle.aft_model.proofs.Lists.{all_from, in_map, map_in}
 use Rattle.aft_model.proofs.Pins.{There, running_there}
 use Rattle.aft_model.proofs.Sights.{same_bytes}
-use Rattle.aft_lines.specs.Headline.{are_blockers, is_blocker, names_blockers_in}
+use Rattle.aft_lines.specs.Headline.{are_blockers, names_blockers_in}
 use Rattle.law_reads.proofs.Blockers.{blocked_rightly, blocked_versions}
 use Rattle.law_boots.specs.Beside.{Beside}
 use Rattle.law_boots.proofs.Nodes.{before, done}

@@ -1,10 +1,10 @@
 -- What a node knows is committed at the door, by what it has seen.
-use Rattle.std.proofs.Common.{◌≡◌, ◌≤◌, ℕ, Bool, true, false, ◌&&◌, ◌||◌, not, List, [], ◌∷◌, ◌++◌, refl, sym, ap, subst, ◌∙◌, ◌⊎◌, inl, inr, length, take, eqb}
-use Rattle.std.specs.Prelude.{IsTrue, IsFalse, Option, Some, None, filter, if◌then◌else◌}
+use Rattle.std.proofs.Common.{◌≡◌, ◌≤◌, ℕ, Bool, true, false, ◌&&◌, not, List, [], ◌∷◌, ◌++◌, refl, sym, ap, subst, ◌∙◌, ◌⊎◌, inl, inr, take, eqb}
+use Rattle.std.specs.Prelude.{IsTrue, Option, filter, if◌then◌else◌}
 use Rattle.std.specs.Cmp.Lexicographic.{pointwise}
-use Rattle.std.specs.List.{flat_map, fold, list_all, list_any}
+use Rattle.std.specs.List.{flat_map, fold}
 use Rattle.std.specs.Str.{bytes_eq}
-use Rattle.std.proofs.lemmas.Bool.{and_from, and_parts, false≢true, or_cases, true≢false, not-true}
+use Rattle.std.proofs.lemmas.Bool.{and_parts, false≢true, or_cases}
 use Rattle.aft_keeper.specs.declared.keeper.KeeperAnswer.TheVariants.{Page}
 use Rattle.aft_keeper.specs.declared.keeper.KeeperCall.TheVariants.{Scan}
 use Rattle.aft_keeper.specs.declared.keeper.Pair.{Pair}
@@ -26,7 +26,7 @@ use Rattle.aft_model.specs.Known.{known, known_after, known_in, known_of}
 use Rattle.aft_model.specs.LegalNode.{front}
 use Rattle.aft_model.specs.Membership.{Incarnation, incarnation, same_incarnation}
 use Rattle.aft_model.specs.NodeSights.{comes_up, has_seen, is_stored_by, own_entries, shows_commits}
-use Rattle.aft_model.specs.NodeState.{IsBooting, IsDown, IsServing, NodeState, extended, goes_on, node_state, service_in, state_after, stopped}
+use Rattle.aft_model.specs.NodeState.{IsBooting, IsDown, IsServing, NodeState, goes_on, node_state, service_in, state_after, stopped}
 use Rattle.aft_model.specs.Readings.{records_in}
 use Rattle.aft_model.specs.ScanRun.{ScanPage, commits_on, is_scan_run, page_in, page_limit, same_line, scan_pages}
 use Rattle.aft_model.specs.Sound.{records_prefix}

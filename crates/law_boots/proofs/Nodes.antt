@@ -7,7 +7,7 @@ use Rattle.std.proofs.lemmas.List.Sums.{fold-append}
 use Rattle.aft_model.specs.declared.door.DoorEntry.{DoorEntry}
 use Rattle.aft_model.specs.declared.node.NodeEntry.{NodeEntry}
 use Rattle.aft_model.specs.History.{each_after}
-use Rattle.aft_model.specs.LegalNode.{LegalNode, front, is_legal_node, may_be_done, may_follow_at}
+use Rattle.aft_model.specs.LegalNode.{front, is_legal_node, may_be_done, may_follow_at}
 use Rattle.aft_model.specs.NodeRules.{is_own_end}
 use Rattle.aft_model.specs.NodeSights.{has_seen, is_seen_node, may_come_at}
 use Rattle.aft_model.specs.NodeState.{part}

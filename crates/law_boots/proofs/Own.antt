@@ -18,7 +18,7 @@ use Rattle.aft_model.specs.Cache.{cache}
 use Rattle.aft_model.specs.Choice.{choice}
 use Rattle.aft_model.specs.Known.{known_in}
 use Rattle.aft_model.specs.LegalNode.{may_be_done}
-use Rattle.aft_model.specs.NodeRules.{answers_pick, own_or, pick, picked_by, same_picked}
+use Rattle.aft_model.specs.NodeRules.{answers_pick, own_or, picked_by, same_picked}
 use Rattle.aft_model.specs.NodeState.{node_state, part, serves}
 use Rattle.aft_model.specs.Replies.{is_answer}
 use Rattle.aft_model.proofs.Incarnations.{part-at}

@@ -1,5 +1,5 @@
 -- What a get picks at a service of a node, and that it reads at an id of a commit that was recorded before.
-use Rattle.std.proofs.Common.{◌≡◌, ℕ, Bool, ◌&&◌, ◌||◌, List, [], ◌∷◌, ◌++◌, refl, sym, subst, take}
+use Rattle.std.proofs.Common.{◌≡◌, ℕ, Bool, ◌&&◌, List, [], ◌∷◌, ◌++◌, refl, sym, subst, take}
 use Rattle.std.specs.Prelude.{IsTrue, Option, Some, None}
 use Rattle.std.specs.List.{list_all}
 use Rattle.std.proofs.lemmas.Bool.{and_from, and_parts, false≢true, or_left, or_right}

@@ -1,7 +1,6 @@
 -- Two commits of one UUID that a node knows, or that are committed, are equal; and no node is told of one of the id of absent keys.
-use Rattle.std.proofs.Common.{◌≡◌, ◌≤◌, ℕ, zero, suc, Bool, ◌&&◌, not, List, [], ◌∷◌, ◌++◌, refl, sym, ap, subst, ◌⊎◌, inl, inr, take, eqb, leb, arith}
-use Rattle.std.specs.Prelude.{IsTrue, IsFalse, ◌^◌, nat_lt}
-use Rattle.std.specs.List.{list_all}
+use Rattle.std.proofs.Common.{◌≡◌, ◌≤◌, ℕ, zero, suc, not, List, [], ◌∷◌, ◌++◌, refl, sym, ap, subst, ◌⊎◌, inl, inr, take, eqb, leb, arith}
+use Rattle.std.specs.Prelude.{IsTrue, ◌^◌, nat_lt}
 use Rattle.std.specs.Str.{bytes_eq}
 use Rattle.std.proofs.lemmas.Bool.{and_parts, eqb-true, false_from_ne_true, leb-true}
 use Rattle.aft_id.specs.TxnId.{same_id, zero_id}
@@ -69,6 +68,6 @@ module _ (node capacity : ℕ) (door : List DoorEntry) where
       all_snoc (λ (e : NodeEntry). brings_real e.act) h entry real
       (all_from is_real (brings entry.act) (λ c among. real_commit c door made (in_whole c entry.front door (brought node capacity door h entry its c among))))) history beside
 
--- what is among commits is one of them
+  -- what is among commits is one of them
   pub found : (c : Commit) (commits : List Commit) → IsTrue (is_among c commits) → In c commits
   found c commits among = (let at = any_found (same_commit c) commits among in subst (λ (d : Commit). In d commits) (sym (same_commits c at.0 at.2)) at.1)

@@ -1,9 +1,9 @@
 -- What a service tells an attempt of a key is at the id at which the attempt reads it.
-use Rattle.std.proofs.Common.{◌≡◌, ℕ, Bool, true, false, ◌&&◌, ◌||◌, not, List, [], ◌∷◌, ◌++◌, refl, sym, ap, subst, ◌∙◌, ◌⊎◌, inl, inr, append-nil, append_assoc}
+use Rattle.std.proofs.Common.{◌≡◌, ℕ, Bool, true, false, ◌&&◌, List, [], ◌∷◌, ◌++◌, refl, sym, ap, subst, ◌∙◌, inl, inr}
 use Rattle.std.specs.Prelude.{IsTrue, IsFalse, Option, Some, None, if◌then◌else◌}
-use Rattle.std.specs.List.{fold, list_all, list_any}
+use Rattle.std.specs.List.{fold}
 use Rattle.std.specs.Str.{bytes_eq}
-use Rattle.std.proofs.lemmas.Bool.{and_from, and_parts, cases_Bool, false_from_ne_true, false≢true, not-true, or_cases, true≢false}
+use Rattle.std.proofs.lemmas.Bool.{and_parts, false≢true, not-true, or_cases, true≢false}
 use Rattle.std.proofs.lemmas.List.Sums.{fold-append}
 use Rattle.aft_id.specs.TxnId.{same_id, zero_id}
 use Rattle.aft_id.specs.declared.txn_id.TxnId.{TxnId}
@@ -17,19 +17,19 @@ use Rattle.aft_model.specs.declared.choice.Choice.TheVariants as choices
 use Rattle.aft_model.specs.declared.choice.Picked.{Picked}
 use Rattle.aft_model.specs.declared.choice.Picked.TheVariants as picked
 use Rattle.aft_model.specs.declared.node.NodeAct.{NodeAct}
-use Rattle.aft_model.specs.declared.node.NodeAct.TheVariants.{Put, Select, Value}
+use Rattle.aft_model.specs.declared.node.NodeAct.TheVariants.{Select, Value}
 use Rattle.aft_model.specs.declared.node.NodeEntry.{NodeEntry}
 use Rattle.aft_model.specs.declared.read_set.ReadPair.{ReadPair}
 use Rattle.aft_model.specs.declared.reply.Reply.{Reply}
 use Rattle.aft_model.specs.declared.reply.Reply.TheVariants as replies
-use Rattle.aft_model.specs.Attempts.{attempt_state, buffer, buffered, is_read, is_running, open_reads, read_by, reads, reads_after, same_attempt, with_read}
+use Rattle.aft_model.specs.Attempts.{attempt_state, buffer, buffered, is_read, is_running, read_by, reads, reads_after, same_attempt, with_read}
 use Rattle.aft_model.specs.Cache.{cache}
 use Rattle.aft_model.specs.Choice.{choice}
 use Rattle.aft_model.specs.Known.{known_in}
 use Rattle.aft_model.specs.LegalNode.{may_serve}
 use Rattle.aft_model.specs.NodeRules.{answers_pick, is_value_of, kept_or_fetched, own_or, pick, picked_by, same_picked}
 use Rattle.aft_model.specs.NodeState.{Service, extended}
-use Rattle.aft_model.specs.ReadSet.{HasEachKeyOnce, read_at}
+use Rattle.aft_model.specs.ReadSet.{HasEachKeyOnce}
 use Rattle.aft_model.specs.ScanRun.{same_line}
 use Rattle.aft_model.proofs.Histories.{In, all_at, any_found, in_append, in_back, in_front}
 use Rattle.aft_model.proofs.Ids.{same_id-refl, same_ids}
@@ -174,9 +174,10 @@ module _ (node capacity : ℕ) (s : Service) (real : AreReal (known_in s)) (befo
       where
         of_value : (q : Picked) → IsTrue (same_picked (pick capacity s b key) q) → IsTrue (answers_pick q (Some (replies.Value id value))) → Said key (now_read (Select b key q)) (replies.Value id value)
         of_value (picked.Cached i v) picks answers =
-            let is : i ≡ id = same_ids i id (and_parts (same_id i id) (bytes_eq v value) answers).0 in
-            (reads_picked a b key (picked.Cached i v) id (reads a s.part) same (ap (λ (x : TxnId). x ∷ []) is),
-            picked_real capacity s real b key (picked.Cached i v) id picks (ap (λ (x : TxnId). x ∷ []) is) (λ no. let other : picked.Cached i v ≡ picked.Absent = no in cc))
+            let is : i ≡ id = same_ids i id (and_parts (same_id i id) (bytes_eq v value) answers).0 in (
+              reads_picked a b key (picked.Cached i v) id (reads a s.part) same (ap (λ (x : TxnId). x ∷ []) is),
+              picked_real capacity s real b key (picked.Cached i v) id picks (ap (λ (x : TxnId). x ∷ []) is) (λ no. let other : picked.Cached i v ≡ picked.Absent = no in cc),
+            )
         of_value (picked.Own v) picks answers = absurd (false≢true answers)
         of_value (picked.Fetch i) picks answers = absurd (false≢true answers)
         of_value picked.Absent picks answers = absurd (false≢true answers)
@@ -242,9 +243,10 @@ module _ (node capacity : ℕ) (s : Service) (real : AreReal (known_in s)) (befo
         let its_key : key ≡ got = same_bytes key got both.1 in
         let ids : read_by (picked.Fetch i) ≡ id ∷ [] = ap (λ (x : TxnId). x ∷ []) (sym its_id) in
         let by_rule = and_parts (is_running (attempt_state b s.part) && same_picked (pick capacity s b got) (picked.Fetch i)) (answers_pick (picked.Fetch i) answer) rule in
-        let picks = (and_parts (is_running (attempt_state b s.part)) (same_picked (pick capacity s b got) (picked.Fetch i)) by_rule.0).1 in
-        (subst (λ (k : List ℕ). In (record { key = k; id = id }) (reads_after a (reads a s.part) (Select b got (picked.Fetch i)))) (sym its_key) (reads_picked a b got (picked.Fetch i) id (reads a s.part) both.0 ids),
-        picked_real capacity s real b got (picked.Fetch i) id picks ids (λ no. let other : picked.Fetch i ≡ picked.Absent = no in cc))
+        let picks = (and_parts (is_running (attempt_state b s.part)) (same_picked (pick capacity s b got) (picked.Fetch i)) by_rule.0).1 in (
+          subst (λ (k : List ℕ). In (record { key = k; id = id }) (reads_after a (reads a s.part) (Select b got (picked.Fetch i)))) (sym its_key) (reads_picked a b got (picked.Fetch i) id (reads a s.part) both.0 ids),
+          picked_real capacity s real b got (picked.Fetch i) id picks ids (λ no. let other : picked.Fetch i ≡ picked.Absent = no in cc),
+        )
     picks_now act answer rule a key id is = absurd (false≢true is)
 
     fetched_next : (e : NodeEntry) → In e (s.part ++ entry ∷ []) → (a : Attempt) (key : List ℕ) (id : TxnId) → IsTrue (picks_fetch a key id e.act) → In (record { key = key; id = id }) (reads a (s.part ++ entry ∷ [])) × Real id
