@@ -1,0 +1,29 @@
+//! Laws of refused runs and of upgrades, as calls that do nothing and promise them.
+
+ghost use Rattle.std.specs.Prelude.{List, IsTrue};
+ghost use Rattle.aft_model.specs.declared.door.DoorEntry.{DoorEntry};
+ghost use Rattle.aft_model.specs.Bytes.{HasBytes};
+ghost use Rattle.aft_model.specs.Honest.{Honest};
+ghost use Rattle.aft_model.specs.LegalDoor.{Legal};
+ghost use Rattle.aft_lines.specs.Asked.{Asked, Ran};
+ghost use Rattle.aft_lines.specs.Headline.{KeepsPromise};
+ghost use Rattle.aft_lines.specs.RefusedTrace.{RefusedTrace};
+ghost use Rattle.law_kept.specs.Kept.{Lawful};
+ghost use Rattle.law_refused.specs.Looks.{only_boots, only_looks};
+
+/// A run in which no line runs only looks through the door, and its nodes only boot.
+pub fn refused_only_look()
+    ensures door { (asked : Asked) (ran : Ran) → RefusedTrace asked ran → IsTrue (only_looks ran.trace.door) }
+    ensures nodes { (asked : Asked) (ran : Ran) → RefusedTrace asked ran → IsTrue (only_boots ran.trace.nodes) }
+{}
+
+/// A history of the door that only looks is lawful, where it is legal and made of bytes, and the store keeps what it
+/// acknowledged: nothing is put out of its stage, and nothing is retired.
+pub fn lookers_are_lawful()
+    ensures { (history : List DoorEntry) → Legal history → HasBytes history → Honest history → IsTrue (only_looks history) → Lawful history }
+{}
+
+/// So a run in which no line runs keeps each part of the promise.
+pub fn refused_runs_keep_the_promise()
+    ensures { (asked : Asked) (ran : Ran) → RefusedTrace asked ran → KeepsPromise ran.trace }
+{}

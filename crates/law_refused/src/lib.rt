@@ -1,0 +1,8 @@
+//! The promise of runs in which no line runs, since the opening was refused or memory was wanting for its threads.
+//!
+//! It has no code.
+#![tactic(auto)]
+
+mod laws;
+
+pub use laws::{lookers_are_lawful, refused_only_look, refused_runs_keep_the_promise};
