@@ -7,3 +7,5 @@ pub mod Blocks
 pub mod Own
 pub mod Told
 pub mod Again
+pub mod GivenUp
+pub mod Unasked

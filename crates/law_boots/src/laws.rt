@@ -1,8 +1,9 @@
 //! Laws of nodes beside the door, as calls that do nothing and promise them.
 
-ghost use Rattle.std.specs.Prelude.{◌≡◌, ◌++◌, ◌∷◌, ◌⊎◌, ℕ, List, [], IsTrue, take};
+ghost use Rattle.std.specs.Prelude.{◌≡◌, ◌++◌, ◌∷◌, ◌⊎◌, ℕ, List, [], IsFalse, IsTrue, take};
 ghost use Rattle.aft_records.specs.declared.stored.Commit.{Commit};
-ghost use Rattle.aft_records.specs.Commits.{is_among};
+ghost use Rattle.aft_id.specs.declared.txn_id.TxnId.{TxnId};
+ghost use Rattle.aft_records.specs.Commits.{has_id, is_among};
 ghost use Rattle.aft_model.specs.declared.door.DoorEntry.{DoorEntry};
 ghost use Rattle.aft_model.specs.declared.caller.Attempt.{Attempt};
 ghost use Rattle.aft_model.specs.declared.node.NodeEntry.{NodeEntry};
@@ -12,13 +13,16 @@ ghost use Rattle.aft_model.specs.Attempts.{reads};
 ghost use Rattle.aft_model.specs.Bytes.{HasBytes};
 ghost use Rattle.aft_model.specs.Committed.{Committed, committed};
 ghost use Rattle.aft_model.specs.Known.{known};
-ghost use Rattle.aft_model.specs.NodeState.{part};
+ghost use Rattle.aft_model.specs.declared.node.NodeAct.TheVariants.{Boot, GiveUp};
+ghost use Rattle.aft_model.specs.Claims.{given_up};
+ghost use Rattle.aft_model.specs.Membership.{incarnation};
+ghost use Rattle.aft_model.specs.NodeState.{node_state, part, serves};
 ghost use Rattle.aft_lines.specs.Headline.{names_blockers, reads_atomic_sets};
 ghost use Rattle.aft_lines.specs.Holding.{FetchesStayOpen};
 ghost use Rattle.aft_lines.specs.LegalTrace.{are_legal_nodes};
 ghost use Rattle.law_kept.specs.Kept.{Lawful};
 ghost use Rattle.law_reads.specs.Brings.{are_real, brings};
-ghost use Rattle.law_boots.specs.Beside.{Beside};
+ghost use Rattle.law_boots.specs.Beside.{Beside, backs_give_ups};
 ghost use Rattle.law_boots.specs.Gets.{answers_own, reads_recorded_ids, repeats_versions};
 
 /// What an entry of a node brings, and what the node knows before it, is committed in what the entry has seen at the door.
@@ -59,4 +63,15 @@ pub fn own_puts_are_answered()
 /// version, or all that the key is absent.
 pub fn gets_repeat_versions()
     ensures { (first capacity : ℕ) (trace : Trace) → HasBytes trace.door → FetchesStayOpen trace → IsTrue (are_legal_nodes first capacity trace.door trace.nodes) → IsTrue (repeats_versions trace) }
+{}
+
+/// What a node has given up, beside a lawful history of the door, isn't known again while its incarnation serves.
+pub fn given_up_is_never_known()
+    ensures { (node capacity inc : ℕ) (id : TxnId) (door : List DoorEntry) (history more : List NodeEntry) (entry : NodeEntry) → Lawful door → Beside node capacity door ((history ++ entry ∷ []) ++ more) → entry.act ≡ GiveUp id → IsTrue (serves inc (node_state history)) → IsTrue (serves inc (node_state ((history ++ entry ∷ []) ++ more))) → IsFalse (has_id id (known ((history ++ entry ∷ []) ++ more))) }
+{}
+
+/// Where each give-up of the node at the door has one of its own in the node's history, the incarnation that boots has given
+/// nothing up by what the boot has seen.
+pub fn boots_gave_nothing_up()
+    ensures { (node capacity inc : ℕ) (id : TxnId) (commits : List Commit) (door : List DoorEntry) (history more : List NodeEntry) (entry : NodeEntry) → Beside node capacity door ((history ++ entry ∷ []) ++ more) → IsTrue (backs_give_ups node ((history ++ entry ∷ []) ++ more) door) → entry.act ≡ Boot inc commits → IsFalse (given_up (incarnation node inc) id (take entry.front door)) }
 {}
