@@ -62,7 +62,7 @@ module _ (ran : Ran) (alone : IsTrue (only_opens ran)) where
 
 -- ---- what they are
 
-look_of : (place : ℕ) (act : DoorAct) → IsTrue (reads_alone (AtDoor place act)) → IsTrue (is_look act)
+pub look_of : (place : ℕ) (act : DoorAct) → IsTrue (reads_alone (AtDoor place act)) → IsTrue (is_look act)
 look_of place doors.Opened reads = refl
 look_of place (doors.Up node inc) reads = refl
 look_of place (doors.Call node inc (calls.Scan prefix after limit) answer) reads = refl

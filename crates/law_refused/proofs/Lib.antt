@@ -5,3 +5,6 @@ pub mod Turns
 pub mod Entries
 pub mod Nodes
 pub mod Refused
+pub mod Upgrading
+pub mod UpgradeTurns
+pub mod Upgrade

@@ -8,8 +8,10 @@ ghost use Rattle.aft_model.specs.LegalDoor.{Legal};
 ghost use Rattle.aft_lines.specs.Asked.{Asked, Ran};
 ghost use Rattle.aft_lines.specs.Headline.{KeepsPromise};
 ghost use Rattle.aft_lines.specs.RefusedTrace.{RefusedTrace};
+ghost use Rattle.aft_lines.specs.UpgradeTrace.{UpgradeTrace};
 ghost use Rattle.law_kept.specs.Kept.{Lawful};
 ghost use Rattle.law_refused.specs.Looks.{only_boots, only_looks};
+ghost use Rattle.law_refused.specs.Upgrades.{only_upgrades};
 
 /// A run in which no line runs only looks through the door, and its nodes only boot.
 pub fn refused_only_look()
@@ -26,4 +28,20 @@ pub fn lookers_are_lawful()
 /// So a run in which no line runs keeps each part of the promise.
 pub fn refused_runs_keep_the_promise()
     ensures { (asked : Asked) (ran : Ran) → RefusedTrace asked ran → KeepsPromise ran.trace }
+{}
+
+/// A run of an upgrade, wherever it ended, only looks through the door, and puts records in the second format as the office.
+pub fn upgrades_only_upgrade()
+    ensures { (ran : Ran) → UpgradeTrace ran → IsTrue (only_upgrades ran.trace.door) }
+{}
+
+/// A history of the door that only does so is lawful, where it is legal and made of bytes, and the store keeps what it
+/// acknowledged: the office puts records where nobody has claimed anything, and nothing is retired.
+pub fn upgraders_are_lawful()
+    ensures { (history : List DoorEntry) → Legal history → HasBytes history → Honest history → IsTrue (only_upgrades history) → Lawful history }
+{}
+
+/// So a run of an upgrade, wherever it ended, keeps each part of the promise.
+pub fn upgrades_keep_the_promise()
+    ensures { (ran : Ran) → UpgradeTrace ran → KeepsPromise ran.trace }
 {}
