@@ -1,6 +1,6 @@
 //! Runs in which versions that nobody has are deleted, and others, which are refused.
 
-ghost use Rattle.std.specs.Prelude.{[], ◌∷◌};
+ghost use Rattle.std.specs.Prelude.{[], ◌∷◌, IsFalse, IsTrue};
 ghost use Rattle.aft_lines.specs.Headline.{Headline};
 ghost use Rattle.aft_model.specs.Honest.{Honest};
 ghost use Rattle.aft_lines.specs.LegalTrace.{LegalTrace};
@@ -10,7 +10,7 @@ ghost use Rattle.aft_runs.specs.LeftOut.{AnswersAll};
 ghost use Rattle.aft_runs.specs.OrphanRounds.{by_older_claim, claim, counts, crashes_and, deleted_orphan, deletes_orphan, fails_look, keeps_claim, kept_once_recorded, lists_unread, looks_and, marker_first, meets_round, page_fails_and, settles_and, shows_damage, though_recorded, without_claim};
 ghost use Rattle.aft_runs.specs.Parts.{RefusedBy, Door, Courses, Causes};
 ghost use Rattle.aft_runs.specs.Reads.{x_hi};
-ghost use Rattle.aft_runs.specs.TwoVersions.{deletes_of, deletes_second, unlisted};
+ghost use Rattle.aft_runs.specs.TwoVersions.{deletes_of, deletes_second, fails_once, shows_more_than, unlisted};
 ghost use Rattle.aft_runs.specs.Works.{by};
 
 /// A version is passed over while its transaction is there, kept once its record is found, and deleted where its node crashed before.
@@ -32,6 +32,21 @@ pub fn versions_of_one_id()
     ensures second { RefusedBy [] deletes_second }
     ensures first { RefusedBy [] (deletes_of x_hi.id) }
     ensures neither { RefusedBy (Courses ∷ Causes ∷ []) (deletes_of unlisted) }
+{}
+
+/// A round tells of too many versions only where its pages show more than are allowed.
+#[tactic(auto, unfolding(aft_histories::proofs::Stored::stored_forms))]
+pub fn too_many_versions()
+    ensures few { RefusedBy (Causes ∷ []) (crashes_and [] replies.TooManyVersions) }
+    ensures more_than_allowed { IsTrue (shows_more_than 1) }
+    ensures as_many_as_allowed { IsFalse (shows_more_than 2) }
+{}
+
+/// A look that failed is counted, and is no store fault of the round.
+#[tactic(auto, unfolding(aft_histories::proofs::Stored::stored_forms))]
+pub fn failed_looks_refused()
+    ensures counted { RefusedBy [] (fails_once (counts 0 0 1 1)) }
+    ensures store_fault { RefusedBy (Causes ∷ []) (fails_once replies.StoreFault) }
 {}
 
 /// A version is deleted under a claim of its UUID, behind which neither its record nor then its marker was found.
