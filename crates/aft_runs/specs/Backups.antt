@@ -1,15 +1,18 @@
 -- Runs in which the store is copied, beside a collection and beside a commit.
-use Rattle.std.specs.Prelude.{ℕ, ◌+◌, List, [], ◌∷◌, ◌++◌, map, length, codes}
+use Rattle.std.specs.Prelude.{ℕ, Bool, ◌+◌, true, List, [], ◌∷◌, ◌++◌, map, length, codes}
 use Rattle.std.specs.List.{flat_map}
+use Rattle.aft_keeper.specs.declared.keeper.KeeperCall.TheVariants as calls
 use Rattle.aft_keeper.specs.declared.keeper.Pair.{Pair}
 use Rattle.aft_records.specs.declared.stored.Commit.{Commit}
 use Rattle.aft_lines.specs.BackupCourse.{copy_of}
+use Rattle.aft_lines.specs.CausesScans.{shows_too_many}
 use Rattle.aft_lines.specs.FinishedText.{line_of}
 use Rattle.aft_lines.specs.LineView.{ends_of}
 use Rattle.aft_lines.specs.Lines.{lines}
 use Rattle.aft_lines.specs.Turns.{turns}
 use Rattle.aft_lines.specs.Views.{view_of}
 use Rattle.aft_model.specs.Membership.{Incarnation, incarnation}
+use Rattle.aft_model.specs.Sound.{records_prefix}
 use Rattle.aft_model.specs.declared.caller.By.{By}
 use Rattle.aft_model.specs.declared.door.DoorAct.TheVariants as acts
 use Rattle.aft_model.specs.declared.door.DoorEntry.{DoorEntry}
@@ -18,11 +21,12 @@ use Rattle.aft_model.specs.declared.reply.Reply.{Reply}
 use Rattle.aft_model.specs.declared.reply.Reply.TheVariants as replies
 use Rattle.aft_model.specs.declared.script.Command.TheVariants as commands
 use Rattle.aft_histories.specs.Entries.{x, done_pair, full_pair, record_pair, version_of}
-use Rattle.aft_runs.specs.Entries.{does, finds, lists, misses, closes}
+use Rattle.aft_runs.specs.Entries.{does, fails, finds, lists, misses, closes}
 use Rattle.aft_runs.specs.Lines.{opening, opens, opens_on, boots, attempt, begins, puts, commits}
 use Rattle.aft_runs.specs.Pinned.{older, newer}
 use Rattle.aft_runs.specs.Reads.{x_hi}
 use Rattle.aft_runs.specs.Rounds.{collects, gives_up, retires, collected, held, retired}
+use Rattle.aft_runs.specs.RunLines as views
 use Rattle.aft_runs.specs.Stores.{opens_both}
 use Rattle.aft_runs.specs.Words.{write, hi, commit_of, version_pairs}
 use Rattle.aft_runs.specs.Works.{Work, Run, run, by, nodes, nothing, asks, ordered, step, whole}
@@ -174,3 +178,21 @@ copied_in told = flat_map (λ line. copy_of (ends_of (view_of told.asked told.ra
 -- the newer commit, and the short marker of the older one
 abbrev pub newer_and_marker : List Pair
 newer_and_marker = record_pair (commit_of newer) ∷ done_pair older.id ∷ version_pairs newer
+
+-- ---- scans that stop
+
+-- the copier can't list the records, does this, and the line tells the fault
+abbrev pub page_fails_and : List DoorEntry → Run
+page_fails_and done = run (nodes 1) (opens ∷ boots 3 opening 1 1 [] ∷ comes_up (by 1 1) first_copier ∷ record nothing {
+  door = fails (by 1 1) first_copier (calls.Scan (codes "c/") [] 64) ∷ done;
+  office = closes (7 + length done) (by 1 1) desk.Nothing replies.StoreFault ∷ [];
+} ∷ [])
+
+-- it is fenced
+abbrev pub is_gone : List DoorEntry
+is_gone = is_fenced (by 1 1) first_copier ∷ []
+
+-- whether the copy of the store with both records shows too many, where so many are allowed
+abbrev pub shows_more_than : ℕ → Bool
+shows_more_than most =
+    shows_too_many (record { most = most; judges = true }) records_prefix (views.line (by 1 1) commands.Backup (views.holds_nothing 1) (copies_store [] is_gone replies.NoMemory).ran)

@@ -1,10 +1,11 @@
 //! Runs in which the store is copied, and others, which are refused.
 
-ghost use Rattle.std.specs.Prelude.{◌≡◌, [], ◌∷◌, ◌++◌};
+ghost use Rattle.std.specs.Prelude.{◌≡◌, [], ◌∷◌, ◌++◌, IsFalse, IsTrue};
 ghost use Rattle.aft_lines.specs.Headline.{Headline};
 ghost use Rattle.aft_model.specs.Honest.{Honest};
 ghost use Rattle.aft_lines.specs.LegalTrace.{LegalTrace};
-ghost use Rattle.aft_runs.specs.Backups.{beside_collection, commits_beside, copied, copied_in, copies_store, copying_alone, copying_beside, fences, first_copier, gets, gets_versions, misses_and_ends, misses_and_stays, newer_and_marker, older_marked, retired_beside, second_copier, tells_missing};
+ghost use Rattle.aft_model.specs.declared.reply.Reply.TheVariants as replies;
+ghost use Rattle.aft_runs.specs.Backups.{beside_collection, commits_beside, copied, copied_in, copies_store, copying_alone, copying_beside, fences, first_copier, gets, gets_versions, is_gone, misses_and_ends, misses_and_stays, newer_and_marker, older_marked, page_fails_and, retired_beside, second_copier, shows_more_than, tells_missing};
 ghost use Rattle.aft_runs.specs.LeftOut.{AnswersAll};
 ghost use Rattle.aft_runs.specs.Parts.{RefusedBy, Door, Courses, Causes};
 ghost use Rattle.aft_runs.specs.Pinned.{newer, older};
@@ -49,4 +50,19 @@ pub fn cuts_refused()
     ensures missing { RefusedBy [] (copies_store [] misses_and_ends tells_missing) }
     ensures missing_not_fenced { RefusedBy (Courses ∷ []) (copies_store [] misses_and_stays tells_missing) }
     ensures missing_copied { RefusedBy (Courses ∷ Causes ∷ []) (copies_store [] misses_and_ends (copied 1 0)) }
+{}
+
+/// A copy tells of too many records only where its pages show more than are allowed.
+#[tactic(auto, unfolding(aft_histories::proofs::Stored::stored_forms))]
+pub fn too_many_records()
+    ensures few { RefusedBy (Causes ∷ []) (copies_store [] is_gone replies.TooManyRecords) }
+    ensures more_than_allowed { IsTrue (shows_more_than 1) }
+    ensures as_many_as_allowed { IsFalse (shows_more_than 2) }
+{}
+
+/// A copier that can't list the records is fenced too.
+#[tactic(auto, unfolding(aft_histories::proofs::Stored::stored_forms))]
+pub fn failed_pages_refused()
+    ensures fenced { RefusedBy [] (page_fails_and is_gone) }
+    ensures not_fenced { RefusedBy (Courses ∷ []) (page_fails_and []) }
 {}
