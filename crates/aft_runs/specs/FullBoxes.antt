@@ -1,7 +1,9 @@
 -- A run in which a mailbox is full, so that the manager finds what it refused; and that run where what the box takes is left open.
 use Rattle.std.specs.Prelude.{ℕ, List, [], ◌∷◌, ◌++◌, codes, map, length}
+use Rattle.std.specs.List.{flat_map}
 use Rattle.aft_records.specs.declared.stored.Commit.{Commit}
 use Rattle.aft_lines.specs.Asked.{Settings}
+use Rattle.aft_model.specs.Known.{known}
 use Rattle.aft_model.specs.Membership.{the_office}
 use Rattle.aft_model.specs.declared.mail.MailAct.TheVariants as letters
 use Rattle.aft_model.specs.declared.mail.MailEntry.{MailEntry}
@@ -121,3 +123,7 @@ announces_in told = run (nodes 1) (
     ∷ puts 14 (by 1 5) (attempt 1 1 2) (write x a)
     ∷ commits 14 (by 1 6) (attempt 1 1 2) of_x
     ∷ announces 17 (by 1 7) 1 told [] ∷ [])
+
+-- what the nodes of a run know in the end
+abbrev pub known_at_last : Run → List Commit
+known_at_last told = flat_map known told.ran.trace.nodes

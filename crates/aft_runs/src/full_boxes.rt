@@ -1,10 +1,10 @@
 //! A run in which a mailbox is full, and others, which are refused.
 
-ghost use Rattle.std.specs.Prelude.{[], ◌∷◌};
+ghost use Rattle.std.specs.Prelude.{◌≡◌, [], ◌∷◌};
 ghost use Rattle.aft_lines.specs.Headline.{Headline};
 ghost use Rattle.aft_model.specs.Honest.{Honest};
 ghost use Rattle.aft_lines.specs.LegalTrace.{LegalTrace};
-ghost use Rattle.aft_runs.specs.FullBoxes.{announces_in, c_x, c_y, full_box, announced_both, rounds_at_full, full_again};
+ghost use Rattle.aft_runs.specs.FullBoxes.{announces_in, c_x, c_y, full_box, announced_both, known_at_last, rounds_at_full, full_again};
 ghost use Rattle.aft_runs.specs.LeftOut.{AnswersAll};
 ghost use Rattle.aft_runs.specs.Parts.{RefusedBy, Nodes, Boxes, Posts, Causes};
 
@@ -40,4 +40,10 @@ pub fn full_boxes_refused()
 pub fn announced_by_id()
     ensures by_id { RefusedBy [] (announces_in (c_x ∷ c_y ∷ [])) }
     ensures as_stored { RefusedBy (Nodes ∷ Posts ∷ []) (announces_in (c_y ∷ c_x ∷ [])) }
+{}
+
+/// A node knows commits in the order of their ids, in whichever they were stored.
+#[tactic(auto, unfolding(aft_histories::proofs::Stored::stored_forms))]
+pub fn known_by_id()
+    ensures by_id { known_at_last (announces_in (c_x ∷ c_y ∷ [])) ≡ c_x ∷ c_y ∷ [] }
 {}
