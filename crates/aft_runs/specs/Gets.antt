@@ -1,15 +1,16 @@
 -- Runs in which one get is left open: with the one that the rules ask for they are legal, and with another they are refused.
-use Rattle.std.specs.Prelude.{◌+◌, true, List, [], ◌∷◌, ◌++◌, length, codes}
+use Rattle.std.specs.Prelude.{ℕ, ◌+◌, true, List, [], ◌∷◌, ◌++◌, length, codes}
 use Rattle.aft_model.specs.declared.choice.Picked.TheVariants as picks
 use Rattle.aft_model.specs.declared.door.DoorEntry.{DoorEntry}
 use Rattle.aft_model.specs.declared.node.NodeAct.TheVariants as turns
 use Rattle.aft_model.specs.declared.reply.Reply.TheVariants as replies
+use Rattle.aft_model.specs.declared.script.Command.TheVariants as commands
 use Rattle.aft_histories.specs.Entries.{x, y, record_pair}
 use Rattle.aft_runs.specs.Entries.{finds, lists, turn, answering}
 use Rattle.aft_runs.specs.Lines.{opening, opens, boots, attempt, begins, caller_of, puts, gets_absent, fetches, commits}
 use Rattle.aft_runs.specs.Reads.{x_hi, x_a, y_old, both_later}
 use Rattle.aft_runs.specs.Words.{write, hi, a, b, commit_of, version_pair}
-use Rattle.aft_runs.specs.Works.{Work, Run, run, by, at, nodes}
+use Rattle.aft_runs.specs.Works.{Work, Run, run, by, at, nodes, asks}
 
 -- ---- the newest version that fits
 
@@ -80,3 +81,16 @@ fetches_behind earlier = run (nodes 1) (
 -- a page of all records
 abbrev pub scans_records : List DoorEntry
 scans_records = lists (by 2 5) (caller_of (attempt 1 1 2)) (codes "c/") (record_pair (commit_of x_hi) ∷ []) ∷ []
+
+-- ---- what the transaction wrote itself
+
+-- a transaction puts a value of x, and gets x
+abbrev pub gets_put : Work → Run
+gets_put get = run (nodes 1) (opens ∷ boots 3 opening 1 1 [] ∷ begins 5 (by 1 1) (attempt 1 1 1) 1 ∷ puts 8 (by 1 2) (attempt 1 1 1) (write x hi) ∷ get ∷ [])
+
+-- it gets this value as its own, or finds x absent
+abbrev pub gets_own : List ℕ → Work
+gets_own value = record (asks (by 1 3) (commands.Get x)) { nodes = at 1 (answering 8 (by 1 3) (turns.Select (attempt 1 1 1) x (picks.Own value)) (replies.Own value) ∷ []) }
+
+abbrev pub gets_none : Work
+gets_none = gets_absent 8 (by 1 3) (attempt 1 1 1) x
