@@ -136,6 +136,10 @@ commits_anew = over_marker short (
 abbrev pub forgets_running : Reply → Run
 forgets_running reply = over_marker short (begins 6 (by 1 1) (attempt 1 1 1) 2 ∷ only_answers 9 (by 2 2) 1 (commands.Forget (u 2) 1) reply ∷ [])
 
+-- a forget of a transaction that nobody has begun here is answered so at once
+abbrev pub forgets_idle : Reply → Run
+forgets_idle reply = over_marker short (only_answers 6 (by 1 1) 1 (commands.Forget (u 1) 1) reply ∷ [])
+
 -- ---- what the store holds
 
 -- what the store holds of the second commit

@@ -8,7 +8,7 @@ ghost use Rattle.aft_model.specs.Honest.{Honest};
 ghost use Rattle.aft_lines.specs.LegalTrace.{LegalTrace};
 ghost use Rattle.aft_model.specs.declared.reply.Reply.TheVariants as replies;
 ghost use Rattle.aft_histories.specs.Entries.{u};
-ghost use Rattle.aft_runs.specs.Forgets.{begins_anew, claim, commits_anew, delete, failed_forget, fails_look, forget, forgets, forgets_nothing, forgets_running, forgets_then, forgot, full, held_at_first, kept, leaves, looks_at, loses_record, of_newer, release, short, tells_forgotten, whole_forget};
+ghost use Rattle.aft_runs.specs.Forgets.{begins_anew, claim, commits_anew, delete, failed_forget, fails_look, forget, forgets, forgets_idle, forgets_nothing, forgets_running, forgets_then, forgot, full, held_at_first, kept, leaves, looks_at, loses_record, of_newer, release, short, tells_forgotten, whole_forget};
 ghost use Rattle.aft_runs.specs.LeftOut.{AnswersAll};
 ghost use Rattle.aft_runs.specs.Parts.{RefusedBy, Door, Nodes, Courses, Causes};
 ghost use Rattle.aft_runs.specs.Promises.{Breaks, OneCommitAnId};
@@ -36,6 +36,13 @@ pub fn forgets_refused()
     ensures running { RefusedBy [] (forgets_running (replies.Busy 1 1)) }
     ensures running_unknown { RefusedBy (Nodes ∷ Causes ∷ []) (forgets_running (replies.Unknown (u 2))) }
     ensures short_kept { RefusedBy (Courses ∷ Causes ∷ []) (forget short (leaves short) kept) }
+{}
+
+/// A forget is busy only with an attempt of the UUID, or with another who holds it.
+#[tactic(auto, unfolding(aft_histories::proofs::Stored::stored_forms))]
+pub fn busy_forgets_refused()
+    ensures no_attempt { RefusedBy (Causes ∷ []) (forgets_idle (replies.Busy 1 1)) }
+    ensures held_by_nobody { RefusedBy (Causes ∷ []) (forget short [] (replies.Busy 2 1)) }
 {}
 
 /// A forgotten UUID is claimed no more, or it would commit again; and one that isn't forgotten isn't answered so.
