@@ -9,3 +9,7 @@ pub mod Told
 pub mod Again
 pub mod GivenUp
 pub mod Unasked
+pub mod Came
+pub mod Greatest
+pub mod Boot
+pub mod Promised

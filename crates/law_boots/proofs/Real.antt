@@ -27,7 +27,7 @@ use Rattle.law_boots.specs.Beside.{Beside}
 use Rattle.law_boots.proofs.Known.{brought, known_seen}
 use Rattle.law_boots.proofs.Nodes.{kept}
 
-taken : {A : Type 0} (n : ℕ) (xs : List A) → (more : List A) × (xs ≡ take n xs ++ more)
+pub taken : {A : Type 0} (n : ℕ) (xs : List A) → (more : List A) × (xs ≡ take n xs ++ more)
 taken zero xs = (xs, refl)
 taken (suc n) [] = ([], refl)
 taken {A} (suc n) (x ∷ xs) = let rest = taken n xs in (rest.0, ap (λ (l : List A). x ∷ l) rest.1)

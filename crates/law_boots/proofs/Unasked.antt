@@ -27,7 +27,7 @@ use Rattle.aft_lines.specs.LegalTrace.{backs_give_up, some_after}
 use Rattle.law_whole.proofs.Lists.{split_at}
 use Rattle.law_boots.specs.Beside.{Beside, backs_give_ups, is_backed_in}
 use Rattle.law_boots.proofs.Nodes.{begins, before, done, front-snoc, up}
-use Rattle.law_boots.proofs.Picks.{in_one}
+use Rattle.law_boots.proofs.Real.{taken}
 
 -- ---- two places of one list
 
@@ -94,11 +94,6 @@ length_taken : {A : Type 0} (n : ℕ) (xs : List A) → length (take n xs) ≤ n
 length_taken zero xs = omega arith
 length_taken (suc n) [] = omega arith
 length_taken (suc n) (x ∷ xs) = (let rest = length_taken n xs in omega arith)
-
-taken : {A : Type 0} (n : ℕ) (xs : List A) → (more : List A) × (xs ≡ take n xs ++ more)
-taken zero xs = (xs, refl)
-taken (suc n) [] = ([], refl)
-taken {A} (suc n) (x ∷ xs) = let rest = taken n xs in (rest.0, ap (λ (l : List A). x ∷ l) rest.1)
 
 module _ (node capacity : ℕ) (door : List DoorEntry) where
   front_rises : (history more : List NodeEntry) → Beside node capacity door (history ++ more) → front history ≤ front (history ++ more)

@@ -1,6 +1,6 @@
 //! Laws of nodes beside the door, as calls that do nothing and promise them.
 
-ghost use Rattle.std.specs.Prelude.{◌≡◌, ◌++◌, ◌∷◌, ◌⊎◌, ℕ, List, [], IsFalse, IsTrue, take};
+ghost use Rattle.std.specs.Prelude.{◌≡◌, ◌++◌, ◌∷◌, ◌⊎◌, ℕ, List, [], IsFalse, IsTrue, take, ◌==◌};
 ghost use Rattle.aft_records.specs.declared.stored.Commit.{Commit};
 ghost use Rattle.aft_id.specs.declared.txn_id.TxnId.{TxnId};
 ghost use Rattle.aft_records.specs.Commits.{has_id, is_among};
@@ -10,7 +10,7 @@ ghost use Rattle.aft_model.specs.declared.node.NodeEntry.{NodeEntry};
 ghost use Rattle.aft_model.specs.declared.trace.Trace.{Trace};
 ghost use Rattle.aft_model.specs.AtomicReads.{Atomic};
 ghost use Rattle.aft_model.specs.Attempts.{reads};
-ghost use Rattle.aft_model.specs.Bytes.{HasBytes};
+ghost use Rattle.aft_model.specs.Bytes.{HasBytes, is_uuid};
 ghost use Rattle.aft_model.specs.Committed.{Committed, committed};
 ghost use Rattle.aft_model.specs.Known.{known};
 ghost use Rattle.aft_model.specs.declared.node.NodeAct.TheVariants.{Boot, GiveUp};
@@ -21,6 +21,10 @@ ghost use Rattle.aft_lines.specs.Headline.{names_blockers, reads_atomic_sets};
 ghost use Rattle.aft_lines.specs.Holding.{FetchesStayOpen};
 ghost use Rattle.aft_lines.specs.LegalTrace.{are_legal_nodes};
 ghost use Rattle.law_kept.specs.Kept.{Lawful};
+ghost use Rattle.law_kept.specs.Tried.{Tried};
+ghost use Rattle.law_boots.specs.Boots.{SeesGreatest};
+ghost use Rattle.aft_records.specs.Superseded.{Superseded};
+ghost use Rattle.aft_records.specs.declared.stored.Marker.TheVariants.{Full};
 ghost use Rattle.law_reads.specs.Brings.{are_real, brings};
 ghost use Rattle.law_boots.specs.Beside.{Beside, backs_give_ups};
 ghost use Rattle.law_boots.specs.Gets.{answers_own, reads_recorded_ids, repeats_versions};
@@ -74,4 +78,17 @@ pub fn given_up_is_never_known()
 /// nothing up by what the boot has seen.
 pub fn boots_gave_nothing_up()
     ensures { (node capacity inc : ℕ) (id : TxnId) (commits : List Commit) (door : List DoorEntry) (history more : List NodeEntry) (entry : NodeEntry) → Beside node capacity door ((history ++ entry ∷ []) ++ more) → IsTrue (backs_give_ups node ((history ++ entry ∷ []) ++ more) door) → entry.act ≡ Boot inc commits → IsFalse (given_up (incarnation node inc) id (take entry.front door)) }
+{}
+
+/// A boot of a node sees of each key the greatest commit that was committed before its incarnation came up: those that weren't
+/// superseded then are among its commits.
+pub fn boots_see_the_greatest()
+    ensures { (node capacity inc : ℕ) (commits : List Commit) (door : List DoorEntry) (history more : List NodeEntry) (entry : NodeEntry) → Lawful door → Beside node capacity door ((history ++ entry ∷ []) ++ more) → IsTrue (backs_give_ups node ((history ++ entry ∷ []) ++ more) door) → IsFalse (node == 0) → entry.act ≡ Boot inc commits → SeesGreatest (incarnation node inc) commits (take entry.front door) }
+{}
+
+/// So what was superseded before the incarnation came up, and each commit whose full marker was tried before that, is never known
+/// while it serves.
+pub fn retired_before_is_never_known()
+    ensures superseded { (node capacity inc : ℕ) (t : Commit) (commits : List Commit) (door : List DoorEntry) (history more : List NodeEntry) (entry : NodeEntry) → Lawful door → Beside node capacity door ((history ++ entry ∷ []) ++ more) → entry.act ≡ Boot inc commits → (sees : SeesGreatest (incarnation node inc) commits (take entry.front door)) → Superseded t (committed sees.before) → IsTrue (serves inc (node_state ((history ++ entry ∷ []) ++ more))) → IsFalse (is_among t (known ((history ++ entry ∷ []) ++ more))) }
+    ensures tried { (node capacity inc : ℕ) (t : Commit) (commits : List Commit) (door : List DoorEntry) (history more : List NodeEntry) (entry : NodeEntry) → Lawful door → Beside node capacity door ((history ++ entry ∷ []) ++ more) → IsTrue (backs_give_ups node ((history ++ entry ∷ []) ++ more) door) → IsFalse (node == 0) → entry.act ≡ Boot inc commits → (sees : SeesGreatest (incarnation node inc) commits (take entry.front door)) → IsTrue (is_uuid t.id.uuid) → Tried sees.before (Full t) → IsTrue (serves inc (node_state ((history ++ entry ∷ []) ++ more))) → IsFalse (is_among t (known ((history ++ entry ∷ []) ++ more))) }
 {}

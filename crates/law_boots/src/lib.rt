@@ -7,7 +7,7 @@
 mod laws;
 
 pub use laws::{
-    blockers_are_named, boots_gave_nothing_up, gets_repeat_versions, given_up_is_never_known,
-    ids_have_one_commit, ids_were_recorded, known_is_committed, own_puts_are_answered,
-    reads_are_atomic,
+    blockers_are_named, boots_gave_nothing_up, boots_see_the_greatest, gets_repeat_versions,
+    given_up_is_never_known, ids_have_one_commit, ids_were_recorded, known_is_committed,
+    own_puts_are_answered, reads_are_atomic, retired_before_is_never_known,
 };

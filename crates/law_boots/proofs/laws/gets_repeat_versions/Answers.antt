@@ -1,5 +1,5 @@
-use Rattle.law_boots.proofs.Again.{again_each}
+use Rattle.law_boots.proofs.Promised.{repeated}
 use Rattle.law_boots.proofs.laws.gets_repeat_versions.Goals as goal
 
 pub returns : goal.returns
-returns c first capacity trace made opens legal = again_each capacity trace.door made first trace.nodes legal opens
+returns c first capacity trace made opens legal = repeated first capacity trace legal made opens
