@@ -171,7 +171,7 @@ module _ (who : Incarnation) (of_node : IsFalse (eqb who.node 0)) (before since 
         | inr others ↦ elim others [
           | inl same ↦ no_put one.act comes (subst (λ (e : DoorEntry). In (Full d) (markers_put e.act)) same.1 at.puts)
           | inr earlier ↦ untried_before (inl (subst (λ (h : List DoorEntry). In (Full d) (flat_map (λ (e : DoorEntry). markers_put e.act) h)) (sym earlier.1)
-            (flat_map_in (λ (e : DoorEntry). markers_put e.act) (Full d) at.entry (at.before ++ at.entry ∷ earlier.0) (in_back at.entry at.before (at.entry ∷ earlier.0) (inl refl)) at.puts)))
+              (flat_map_in (λ (e : DoorEntry). markers_put e.act) (Full d) at.entry (at.before ++ at.entry ∷ earlier.0) (in_back at.entry at.before (at.entry ∷ earlier.0) (inl refl)) at.puts)))
         ]
       ]
 
@@ -198,9 +198,11 @@ module _ (who : Incarnation) (of_node : IsFalse (eqb who.node 0)) (before since 
           cases None at may = absurd (there may)
           cases (Some bytes) at may =
               let known = kept_then.records_known.each bytes may in
-              let same : known.1 ≡ d = kept_then.one known.1 d (inr (record { outcome = Some bytes; may = may; among = known.2 })) (inl (committed_then, refl)) in
-              (record { name = record_name d.id.uuid; bytes = bytes }, stands_in (record_name d.id.uuid) bytes pairs at,
-              subst (λ (c : Commit). In c (records_in (record { name = record_name d.id.uuid; bytes = bytes }))) same (in_filter (has_uuid d.id.uuid) known.1 (records_in (record { name = record_name d.id.uuid; bytes = bytes })) known.2).0)
+              let same : known.1 ≡ d = kept_then.one known.1 d (inr (record { outcome = Some bytes; may = may; among = known.2 })) (inl (committed_then, refl)) in (
+                record { name = record_name d.id.uuid; bytes = bytes },
+                stands_in (record_name d.id.uuid) bytes pairs at,
+                subst (λ (c : Commit). In c (records_in (record { name = record_name d.id.uuid; bytes = bytes }))) same (in_filter (has_uuid d.id.uuid) known.1 (records_in (record { name = record_name d.id.uuid; bytes = bytes })) known.2).0,
+              )
 
     -- ---- on the pages of the run
 

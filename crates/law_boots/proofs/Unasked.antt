@@ -70,8 +70,13 @@ backed test first (e ∷ entries) is =
     elim (or_cases (test first e) (some_after test (first ++ e ∷ []) entries) is) [
       | inl here ↦ record { front_part = []; one = e; back_part = entries; parts = refl; passes = subst (λ (h : List NodeEntry). IsTrue (test h e)) (sym (append-nil first)) here }
       | inr later ↦ (let rest = backed test (first ++ e ∷ []) entries later in
-          record { front_part = e ∷ rest.front_part; one = rest.one; back_part = rest.back_part; parts = ap (λ (l : List NodeEntry). e ∷ l) rest.parts;
-            passes = subst (λ (h : List NodeEntry). IsTrue (test h rest.one)) (append_assoc first (e ∷ []) rest.front_part) rest.passes })
+          record {
+            front_part = e ∷ rest.front_part;
+            one = rest.one;
+            back_part = rest.back_part;
+            parts = ap (λ (l : List NodeEntry). e ∷ l) rest.parts;
+            passes = subst (λ (h : List NodeEntry). IsTrue (test h rest.one)) (append_assoc first (e ∷ []) rest.front_part) rest.passes;
+          })
     ]
 
 gives_what : (id : TxnId) (act : NodeAct) → IsTrue (is_give_up id act) → (i : TxnId) × (act ≡ GiveUp i)
