@@ -1,5 +1,5 @@
 -- A boot is shown the greatest of each key that was committed before its incarnation came up, so what was tried before is never known.
-use Rattle.std.proofs.Common.{◌≡◌, ℕ, Bool, ◌&&◌, List, [], ◌∷◌, ◌++◌, sym, ap, subst, ◌∙◌, append_assoc, take, eqb}
+use Rattle.std.proofs.Common.{◌≡◌, ℕ, ◌&&◌, List, [], ◌∷◌, ◌++◌, sym, ap, subst, take, eqb}
 use Rattle.std.specs.Prelude.{IsTrue, IsFalse}
 use Rattle.std.specs.List.{list_any}
 use Rattle.std.proofs.lemmas.Bool.{and_from, and_parts}
@@ -15,7 +15,7 @@ use Rattle.aft_model.specs.declared.node.NodeAct.TheVariants.{Boot}
 use Rattle.aft_model.specs.declared.node.NodeEntry.{NodeEntry}
 use Rattle.aft_model.specs.Bytes.{is_uuid}
 use Rattle.aft_model.specs.Claims.{given_up}
-use Rattle.aft_model.specs.Committed.{Committed, committed}
+use Rattle.aft_model.specs.Committed.{committed}
 use Rattle.aft_model.specs.Known.{known}
 use Rattle.aft_model.specs.Membership.{Incarnation, incarnation}
 use Rattle.aft_model.specs.NodeSights.{comes_up, has_seen, shows_commits}

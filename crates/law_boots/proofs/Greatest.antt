@@ -1,18 +1,18 @@
 -- A boot is shown each commit that was committed before its incarnation came up, and not superseded then.
-use Rattle.std.proofs.Common.{◌≡◌, ℕ, Bool, true, false, ◌&&◌, ◌||◌, not, List, [], ◌∷◌, ◌++◌, refl, sym, ap, subst, ◌∙◌, ◌⊎◌, inl, inr, append_assoc, eqb}
-use Rattle.std.specs.Prelude.{IsTrue, IsFalse, None, Option, Some, if◌then◌else◌, nat_eq}
+use Rattle.std.proofs.Common.{◌≡◌, ℕ, Bool, true, false, ◌&&◌, ◌||◌, List, [], ◌∷◌, ◌++◌, refl, sym, ap, subst, ◌∙◌, inl, inr, append_assoc, eqb}
+use Rattle.std.specs.Prelude.{IsTrue, IsFalse, None, Option, Some, if◌then◌else◌}
 use Rattle.std.specs.Cmp.Lexicographic.{pointwise}
-use Rattle.std.specs.List.{flat_map, list_all, list_any, starts_with}
+use Rattle.std.specs.List.{flat_map}
 use Rattle.std.specs.Str.{bytes_eq}
-use Rattle.std.proofs.lemmas.Bool.{and_from, and_parts, eqb-true, false≢true, or_cases, true≢false}
+use Rattle.std.proofs.lemmas.Bool.{and_parts, eqb-true, false≢true, or_cases, true≢false}
 use Rattle.std.proofs.lemmas.List.Concat.{flat_map-append}
 use Rattle.aft_id.specs.TxnId.{IsUuid}
 use Rattle.aft_id.specs.declared.txn_id.TxnId.{TxnId}
-use Rattle.aft_keeper.specs.Contents.{bytes_at, is_scanned, name_lt}
+use Rattle.aft_keeper.specs.Contents.{bytes_at, is_scanned}
 use Rattle.aft_keeper.specs.declared.keeper.KeeperAnswer.TheVariants.{Page}
 use Rattle.aft_keeper.specs.declared.keeper.KeeperCall.TheVariants.{Scan}
 use Rattle.aft_keeper.specs.declared.keeper.Pair.{Pair}
-use Rattle.aft_records.specs.Commits.{has_uuid, is_among, same_commit}
+use Rattle.aft_records.specs.Commits.{has_uuid, same_commit}
 use Rattle.aft_records.specs.Superseded.{is_superseded}
 use Rattle.aft_records.specs.declared.stored.Commit.{Commit}
 use Rattle.aft_records.specs.declared.stored.Marker.TheVariants.{Full}
@@ -21,7 +21,7 @@ use Rattle.aft_model.specs.declared.door.DoorAct.{DoorAct}
 use Rattle.aft_model.specs.declared.door.DoorAct.TheVariants as door_acts
 use Rattle.aft_model.specs.declared.door.DoorEntry.{DoorEntry}
 use Rattle.aft_model.specs.Claims.{given_up, gives_up}
-use Rattle.aft_model.specs.Committed.{Committed, committed}
+use Rattle.aft_model.specs.Committed.{committed}
 use Rattle.aft_model.specs.DoorKnowledge.{is_open, opens}
 use Rattle.aft_model.specs.DoorRules.{may_call}
 use Rattle.aft_model.specs.Evidence.{covers, shown_pairs}
@@ -30,7 +30,6 @@ use Rattle.aft_model.specs.LegalDoor.{Legal, is_answered, is_page, may_come, may
 use Rattle.aft_model.specs.MayHold.{may_hold}
 use Rattle.aft_model.specs.Membership.{Incarnation, incarnation, is_up, same_incarnation, ups}
 use Rattle.aft_model.specs.NodeSights.{comes_up, shows_commits}
-use Rattle.aft_model.specs.Office.{before_open}
 use Rattle.aft_model.specs.Opening.{may_open, may_read, opening}
 use Rattle.aft_model.specs.Readings.{markers_in, record_name, records_in}
 use Rattle.aft_model.specs.ScanRun.{ScanPage, commits_on, is_scan_run, page_in, page_limit, same_line, scan_pages}

@@ -1,9 +1,8 @@
 -- By what a boot has seen, its incarnation has given nothing up at the door.
-use Rattle.std.proofs.Common.{◌≡◌, ◌≤◌, ◌<◌, ℕ, zero, suc, Bool, ◌&&◌, ◌||◌, not, List, [], ◌∷◌, ◌++◌, refl, sym, ap, subst, ◌∙◌, ◌⊎◌, inl, inr, append-nil, append_assoc, length, take, eqb, leb, eq-eqb, arith}
-use Rattle.std.specs.Prelude.{IsTrue, IsFalse, Option}
-use Rattle.std.specs.List.{list_any}
+use Rattle.std.proofs.Common.{◌≡◌, ◌≤◌, ◌<◌, ℕ, zero, suc, Bool, ◌&&◌, not, List, [], ◌∷◌, ◌++◌, refl, sym, ap, subst, ◌∙◌, ◌⊎◌, inl, inr, append-nil, append_assoc, length, take, eqb, leb, eq-eqb, arith}
+use Rattle.std.specs.Prelude.{IsTrue, IsFalse}
 use Rattle.std.proofs.lemmas.Bool.{and_parts, eqb-true, false≢true, false_from_ne_true, leb-true, not-true, or_cases, true≢false}
-use Rattle.std.proofs.lemmas.List.{length-append, take-append-le}
+use Rattle.std.proofs.lemmas.List.{length-append}
 use Rattle.aft_id.specs.TxnId.{same_id}
 use Rattle.aft_id.specs.declared.txn_id.TxnId.{TxnId}
 use Rattle.aft_records.specs.declared.stored.Commit.{Commit}
@@ -16,7 +15,7 @@ use Rattle.aft_model.specs.declared.node.NodeAct.TheVariants.{Boot, GiveUp}
 use Rattle.aft_model.specs.declared.node.NodeEntry.{NodeEntry}
 use Rattle.aft_model.specs.Claims.{given_up, gives_up}
 use Rattle.aft_model.specs.History.{each_after}
-use Rattle.aft_model.specs.LegalNode.{front, may_be_done, may_serve}
+use Rattle.aft_model.specs.LegalNode.{front}
 use Rattle.aft_model.specs.Membership.{Incarnation, incarnation, same_incarnation}
 use Rattle.aft_model.specs.NodeState.{IsServing, NodeState, Service, extended, node_state, serves, state_after}
 use Rattle.aft_model.specs.ScanRun.{same_line}
@@ -26,7 +25,7 @@ use Rattle.aft_lines.specs.CollectCourse.{is_give_up}
 use Rattle.aft_lines.specs.LegalTrace.{backs_give_up, some_after}
 use Rattle.law_whole.proofs.Lists.{split_at}
 use Rattle.law_boots.specs.Beside.{Beside, backs_give_ups, is_backed_in}
-use Rattle.law_boots.proofs.Nodes.{begins, before, done, front-snoc, up}
+use Rattle.law_boots.proofs.Nodes.{begins, before, front-snoc, up}
 use Rattle.law_boots.proofs.Real.{taken}
 
 -- ---- two places of one list
