@@ -8,3 +8,6 @@ pub mod Refused
 pub mod Upgrading
 pub mod UpgradeTurns
 pub mod Upgrade
+pub mod Upgraded
+pub mod Walk
+pub mod Leaves

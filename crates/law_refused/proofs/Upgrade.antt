@@ -1,5 +1,5 @@
 -- A run of an upgrade keeps its promise.
-use Rattle.std.proofs.Common.{Bool, List, [], eqb, false, length, refl, subst, ◌&&◌, ◌≡◌}
+use Rattle.std.proofs.Common.{List, eqb, false, length, subst, ◌&&◌, ◌≡◌}
 use Rattle.std.specs.Prelude.{IsTrue}
 use Rattle.std.proofs.lemmas.Bool.{and_parts}
 use Rattle.aft_model.specs.Honest.{Honest}

@@ -1,5 +1,5 @@
 -- The turns of an upgrade look, and put records in the second format.
-use Rattle.std.proofs.Common.{Bool, List, [], eqb, false, length, not, refl, subst, suc, sym, true, ℕ, ◌&&◌, ◌++◌, ◌∷◌, ◌≡◌}
+use Rattle.std.proofs.Common.{Bool, List, [], false, not, refl, subst, suc, sym, true, ℕ, ◌&&◌, ◌++◌, ◌∷◌, ◌≡◌}
 use Rattle.std.specs.Prelude.{IsFalse, IsTrue, if◌then◌else◌}
 use Rattle.std.specs.List.{list_all, list_any}
 use Rattle.std.specs.Str.{bytes_eq}
@@ -10,7 +10,7 @@ use Rattle.aft_keeper.specs.declared.keeper.Pair.{Pair}
 use Rattle.aft_records.specs.declared.stored.Commit.{Commit}
 use Rattle.aft_records.specs.Commits.{is_among}
 use Rattle.aft_model.specs.declared.door.DoorAct.{DoorAct}
-use Rattle.aft_model.specs.declared.door.DoorAct.TheVariants.{Call, Opened}
+use Rattle.aft_model.specs.declared.door.DoorAct.TheVariants.{Call}
 use Rattle.aft_model.specs.declared.door.DoorEntry.{DoorEntry}
 use Rattle.aft_model.specs.DoorKnowledge.{is_open, opens}
 use Rattle.aft_model.specs.History.{each_after}
@@ -26,11 +26,9 @@ use Rattle.aft_lines.specs.CommitCourse.{is_written_as}
 use Rattle.aft_lines.specs.CourseWords.{finds_record, found_pair, is_over}
 use Rattle.aft_lines.specs.Turns.{AtDoor, Turn, door_turns}
 use Rattle.aft_lines.specs.UpgradeCourse.{behind_upgrade_get, is_of_record, puts_upgraded, upgrade_course, upgraded, upgrades}
-use Rattle.law_runs.proofs.Reading.{reads_alone}
 use Rattle.law_refused.specs.Looks.{is_look}
 use Rattle.law_refused.specs.Upgrades.{is_look_or_upgrade, is_second_format, only_upgrades}
 use Rattle.law_refused.proofs.Entries.{OwnDoor, look_of, own_turns, read_first}
-use Rattle.aft_model.specs.declared.door.DoorAct.TheVariants as doors
 
 -- whether a turn is at the door, and looks there or upgrades
 abbrev pub upgrades_alone : Turn → Bool

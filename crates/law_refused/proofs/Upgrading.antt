@@ -1,9 +1,8 @@
 -- An upgrade keeps the stages, and retires nothing.
-use Rattle.std.proofs.Common.{Bool, List, [], ap, eqb, false, not, refl, subst, sym, true, ℕ, ◌&&◌, ◌++◌, ◌||◌, ◌∙◌, ◌∷◌, ◌≡◌}
+use Rattle.std.proofs.Common.{Bool, List, [], ap, eqb, false, not, refl, subst, sym, true, ℕ, ◌++◌, ◌||◌, ◌∙◌, ◌∷◌, ◌≡◌}
 use Rattle.std.specs.Prelude.{IsTrue}
 use Rattle.std.specs.List.{flat_map, list_all, list_any}
 use Rattle.std.proofs.lemmas.Bool.{and_from, and_parts, false≢true, or_right}
-use Rattle.aft_keeper.specs.declared.keeper.KeeperAnswer.{KeeperAnswer}
 use Rattle.aft_keeper.specs.declared.keeper.KeeperCall.TheVariants.{Delete, Get, Put, Scan}
 use Rattle.aft_records.specs.declared.stored.Commit.{Commit}
 use Rattle.aft_records.specs.declared.stored.Marker.{Marker}
@@ -12,7 +11,7 @@ use Rattle.aft_records.specs.declared.stored.Version.{Version}
 use Rattle.aft_records.specs.Reading.{marker_of, record_of, version_of}
 use Rattle.aft_model.specs.declared.caller.By.{By}
 use Rattle.aft_model.specs.declared.door.DoorAct.{DoorAct}
-use Rattle.aft_model.specs.declared.door.DoorAct.TheVariants.{Call, Claim, Fence, GiveUp, Opened, Release, Up}
+use Rattle.aft_model.specs.declared.door.DoorAct.TheVariants.{Call, Claim}
 use Rattle.aft_model.specs.declared.door.DoorEntry.{DoorEntry}
 use Rattle.aft_model.specs.Bytes.{HasBytes}
 use Rattle.aft_model.specs.Committed.{retired_by}
@@ -24,12 +23,11 @@ use Rattle.aft_model.specs.Membership.{Incarnation, incarnation, same_incarnatio
 use Rattle.aft_model.specs.Readings.{markers_in, record_name, records_in, versions_in, written_in}
 use Rattle.aft_model.specs.Stages.{is_call_in_stage, is_claim, is_clear_to_record, is_clear_to_store, is_in_stage, is_upgraded_alone, retires_unheld_in, was_unheld}
 use Rattle.aft_model.specs.Claims.{holds}
-use Rattle.aft_model.proofs.Histories.{In, any_found}
+use Rattle.aft_model.proofs.Histories.{any_found}
 use Rattle.aft_model.proofs.Lists.{all_from}
 use Rattle.aft_model.proofs.Sights.{no_marker, no_version, read-name}
 use Rattle.law_kept.specs.Kept.{Lawful}
 use Rattle.law_turns.proofs.Lists.{all_append}
-use Rattle.law_refused.specs.Looks.{is_look}
 use Rattle.law_refused.specs.Upgrades.{is_look_or_upgrade, is_second_format, only_upgrades}
 
 -- a rule of each entry that follows from a test of it and of each before it

@@ -1,14 +1,19 @@
 //! Laws of refused runs and of upgrades, as calls that do nothing and promise them.
 
-ghost use Rattle.std.specs.Prelude.{List, IsTrue};
+ghost use Rattle.std.specs.Prelude.{◌≡◌, ◌++◌, List, IsTrue};
+ghost use Rattle.aft_keeper.specs.declared.keeper.Pair.{Pair};
+ghost use Rattle.aft_keeper.specs.Contents.{IsContents};
 ghost use Rattle.aft_model.specs.declared.door.DoorEntry.{DoorEntry};
 ghost use Rattle.aft_model.specs.Bytes.{HasBytes};
+ghost use Rattle.aft_model.specs.Contents.{GoesAlong};
+ghost use Rattle.aft_model.specs.DoorKnowledge.{is_open};
 ghost use Rattle.aft_model.specs.Honest.{Honest};
 ghost use Rattle.aft_model.specs.LegalDoor.{Legal};
+ghost use Rattle.aft_model.specs.Sound.{Sound};
 ghost use Rattle.aft_lines.specs.Asked.{Asked, Ran};
 ghost use Rattle.aft_lines.specs.Headline.{KeepsPromise};
 ghost use Rattle.aft_lines.specs.RefusedTrace.{RefusedTrace};
-ghost use Rattle.aft_lines.specs.UpgradeTrace.{UpgradeTrace};
+ghost use Rattle.aft_lines.specs.UpgradeTrace.{IsFinishedUpgrade, LeavesUpgraded, UpgradeTrace};
 ghost use Rattle.law_kept.specs.Kept.{Lawful};
 ghost use Rattle.law_refused.specs.Looks.{only_boots, only_looks};
 ghost use Rattle.law_refused.specs.Upgrades.{only_upgrades};
@@ -44,4 +49,17 @@ pub fn upgraders_are_lawful()
 /// So a run of an upgrade, wherever it ended, keeps each part of the promise.
 pub fn upgrades_keep_the_promise()
     ensures { (ran : Ran) → UpgradeTrace ran → KeepsPromise ran.trace }
+{}
+
+/// And one that came to its end leaves each commit that its opening was shown whole, with its record surely there in one text,
+/// which is of the second format.
+pub fn finished_upgrades_leave_upgraded()
+    ensures { (ran : Ran) → UpgradeTrace ran → IsFinishedUpgrade ran → Honest ran.trace.door → LeavesUpgraded ran }
+{}
+
+/// Where the store tells its contents, and these go along with what the door's history of such runs has had so far, they are
+/// sound once the door is open, behind each call.
+pub fn contents_are_sound_throughout()
+    ensures refused { (asked : Asked) (ran : Ran) (at_first now held : List Pair) (front back : List DoorEntry) → RefusedTrace asked ran → IsContents at_first → GoesAlong at_first ran.trace.door held → ran.trace.door ≡ front ++ back → IsTrue (is_open front) → GoesAlong at_first front now → Sound now }
+    ensures upgrade { (ran : Ran) (at_first now held : List Pair) (front back : List DoorEntry) → UpgradeTrace ran → IsContents at_first → GoesAlong at_first ran.trace.door held → ran.trace.door ≡ front ++ back → IsTrue (is_open front) → GoesAlong at_first front now → Sound now }
 {}
