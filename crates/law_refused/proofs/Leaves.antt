@@ -17,11 +17,12 @@ use Rattle.aft_model.proofs.Histories.{In}
 use Rattle.aft_model.proofs.Lists.{all_from}
 use Rattle.aft_model.proofs.Told.{told_honest}
 use Rattle.aft_lines.specs.Asked.{Asked, Ran}
+use Rattle.aft_lines.specs.KeepsIds.{KeepsIds}
 use Rattle.aft_lines.specs.RefusedTrace.{RefusedTrace}
 use Rattle.aft_lines.specs.Turns.{Turn}
 use Rattle.aft_lines.specs.UpgradeCourse.{shown_commits, upgrade_course}
 use Rattle.aft_lines.specs.UpgradeTrace.{IsFinishedUpgrade, LeavesUpgraded, UpgradeTrace, is_second_format_of, is_upgraded}
-use Rattle.law_contents.proofs.Sound.{sound_now}
+use Rattle.law_contents.proofs.Sound.{keeps_ids_along, sound_now}
 use Rattle.law_kept.specs.Kept.{Lawful}
 use Rattle.law_kept.proofs.Always.{lawful_begins}
 use Rattle.law_kept.proofs.Gives.{committed_among}
@@ -61,3 +62,10 @@ refused_sound asked ran at_first now held front back trace contents along is ope
 pub upgrade_sound : (ran : Ran) (at_first now held : List Pair) (front back : List DoorEntry) → UpgradeTrace ran → IsContents at_first → GoesAlong at_first ran.trace.door held → ran.trace.door ≡ front ++ back → IsTrue (is_open front) → GoesAlong at_first front now → Sound now
 upgrade_sound ran at_first now held front back trace contents along is opened along_front =
     sound_along ran.trace.door front back at_first now (lawful ran trace (told_honest at_first ran.trace.door held contents along)) contents is opened along_front
+
+-- and behind each entry they keep each used UUID that isn't forgotten
+pub refused_closed : (asked : Asked) (ran : Ran) (at_first : List Pair) → RefusedTrace asked ran → Honest ran.trace.door → IsContents at_first → KeepsIds at_first ran.trace.door
+refused_closed asked ran at_first trace honest contents = keeps_ids_along at_first ran.trace.door contents (lawful_looks ran.trace.door trace.door trace.bytes honest (looked asked ran trace).door)
+
+pub upgrade_closed : (ran : Ran) (at_first : List Pair) → UpgradeTrace ran → Honest ran.trace.door → IsContents at_first → KeepsIds at_first ran.trace.door
+upgrade_closed ran at_first trace honest contents = keeps_ids_along at_first ran.trace.door contents (lawful ran trace honest)

@@ -12,6 +12,7 @@ ghost use Rattle.aft_model.specs.LegalDoor.{Legal};
 ghost use Rattle.aft_model.specs.Sound.{Sound};
 ghost use Rattle.aft_lines.specs.Asked.{Asked, Ran};
 ghost use Rattle.aft_lines.specs.Headline.{KeepsPromise};
+ghost use Rattle.aft_lines.specs.KeepsIds.{KeepsIds};
 ghost use Rattle.aft_lines.specs.RefusedTrace.{RefusedTrace};
 ghost use Rattle.aft_lines.specs.UpgradeTrace.{IsFinishedUpgrade, LeavesUpgraded, UpgradeTrace};
 ghost use Rattle.law_kept.specs.Kept.{Lawful};
@@ -62,4 +63,11 @@ pub fn finished_upgrades_leave_upgraded()
 pub fn contents_are_sound_throughout()
     ensures refused { (asked : Asked) (ran : Ran) (at_first now held : List Pair) (front back : List DoorEntry) → RefusedTrace asked ran → IsContents at_first → GoesAlong at_first ran.trace.door held → ran.trace.door ≡ front ++ back → IsTrue (is_open front) → GoesAlong at_first front now → Sound now }
     ensures upgrade { (ran : Ran) (at_first now held : List Pair) (front back : List DoorEntry) → UpgradeTrace ran → IsContents at_first → GoesAlong at_first ran.trace.door held → ran.trace.door ≡ front ++ back → IsTrue (is_open front) → GoesAlong at_first front now → Sound now }
+{}
+
+/// And behind each entry of such runs they have a record or a marker of each UUID that was used and isn't forgotten: so a later
+/// run finds that it was used.
+pub fn used_ids_stay_closed()
+    ensures refused { (asked : Asked) (ran : Ran) (at_first : List Pair) → RefusedTrace asked ran → Honest ran.trace.door → IsContents at_first → KeepsIds at_first ran.trace.door }
+    ensures upgrade { (ran : Ran) (at_first : List Pair) → UpgradeTrace ran → Honest ran.trace.door → IsContents at_first → KeepsIds at_first ran.trace.door }
 {}

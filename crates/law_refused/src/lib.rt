@@ -9,5 +9,5 @@ mod laws;
 pub use laws::{
     contents_are_sound_throughout, finished_upgrades_leave_upgraded, lookers_are_lawful,
     refused_only_look, refused_runs_keep_the_promise, upgraders_are_lawful,
-    upgrades_keep_the_promise, upgrades_only_upgrade,
+    upgrades_keep_the_promise, upgrades_only_upgrade, used_ids_stay_closed,
 };
