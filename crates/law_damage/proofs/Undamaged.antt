@@ -105,26 +105,29 @@ module _ (asked : Asked) (ran : Ran) (legal : LegalTrace asked ran) (honest : Ho
       never_opens (node_numbers asked.settings) line.order (turns opening ran.trace) course (subst (λ by. IsTrue (list_all (makes line.order) (turns by ran.trace))) is made)
 
   -- so its calls come at the open door
-  comes_at_open : (before : List DoorEntry) (entry : DoorEntry) → IsTrue (may_follow before entry) → IsTrue (same_line (line_of line) entry.by) → IsTrue (is_open before)
+  pub comes_at_open : (before : List DoorEntry) (entry : DoorEntry) → IsTrue (may_follow before entry) → IsTrue (same_line (line_of line) entry.by) → IsTrue (is_open before)
   comes_at_open before entry follows own = by_test (is_open before) refl (and_parts (is_answered entry.act) (if is_open before then may_come before entry.act else may_open before entry) follows).1
     where
       by_test : (t : Bool) → is_open before ≡ t → IsTrue (if t then may_come before entry.act else may_open before entry) → IsTrue (is_open before)
       by_test true opened rule = opened
       by_test false shut rule = absurd (not_the_opening (same_by (line_of line) entry.by own ∙ sym (same_by opening entry.by (and_parts (same_line opening entry.by) (may_read before entry.act) rule).0)))
 
-  -- a page of the records or of the markers shows no damage
-  page_reads : (name : List ℕ) → OnPage (line_of line) (turns (line_of line) ran.trace) name → ⊥
-  page_reads name on =
-      let e = entered (line_of line) ran.trace (AtDoor on.place on.act) on.among in
+  -- what it is shown of the records and the markers has a reading
+  pub reads_there : (place : ℕ) (act : DoorAct) → In (AtDoor place act) (turns (line_of line) ran.trace) → (pair : Pair) → In pair (pairs_in act) → (IsTrue (is_answered act) → IsTrue (is_of_ids pair.name)) → IsTrue (has_reading pair)
+  reads_there place act among pair shown named =
+      let e = entered (line_of line) ran.trace (AtDoor place act) among in
       let at = split_at e.0 door e.1 in
       let now : Lawful (at.0 ++ e.0 ∷ []) = lawful_begins (at.0 ++ e.0 ∷ []) at.1 (subst Lawful (at.2 ∙ sym (append_assoc at.0 (e.0 ∷ []) at.1)) (lawful_door asked ran goes honest)) in
       let follows = (each_after_snoc may_follow [] at.0 e.0 now.legal).1 in
-      let opened = comes_at_open at.0 e.0 follows e.3 in
       let answered : IsTrue (is_answered e.0.act) = (and_parts (is_answered e.0.act) _ follows).0 in
+      shown_reads at.0 e.0 now (comes_at_open at.0 e.0 follows e.3) pair (subst (λ act. In pair (pairs_in act)) e.2 shown) (named (subst (λ act. IsTrue (is_answered act)) (sym e.2) answered))
+
+  -- a page of the records or of the markers shows no damage
+  page_reads : (name : List ℕ) → OnPage (line_of line) (turns (line_of line) ran.trace) name → ⊥
+  page_reads name on =
       let pair = in_map (λ (p : Pair). p.name) name (filter (is_damage None) (pairs_in on.act)) on.damage in
       let shown = in_filter (is_damage None) pair.0 (pairs_in on.act) pair.1 in
-      let named = page_named on.act on.its (subst (λ act. IsTrue (is_answered act)) (sym e.2) answered) pair.0 shown.0 in
-      let reads = shown_reads at.0 e.0 now opened pair.0 (subst (λ act. In pair.0 (pairs_in act)) e.2 shown.0) named in
+      let reads = reads_there on.place on.act on.among pair.0 shown.0 (λ answered. page_named on.act on.its answered pair.0 shown.0) in
       elim (or_cases (not (has_reading pair.0)) (is_of_another None pair.0) shown.1) [
         | inl unread ↦ true≢false (sym reads ∙ not-true (has_reading pair.0) unread)
         | inr other ↦ false≢true other
@@ -137,10 +140,13 @@ module _ (asked : Asked) (ran : Ran) (legal : LegalTrace asked ran) (honest : Ho
         let follows = (and_parts (answers_last (turns (line_of line) ran.trace)) (follows_course line.order (node_numbers asked.settings) (ends_of view) (turns (line_of line) ran.trace)) keeps).1 in
         page_reads name (all_on_pages line.order (line_of line) (node_numbers asked.settings) (ends_of view) (turns (line_of line) ran.trace) looks follows name (judges_all line.order view name looks among)))
 
-    -- so none of them answers that something is damaged
-    pub tells_none : (name : List ℕ) → In (replies.Damaged name) (answers_of (line_of line) ran) → ⊥
-    tells_none name among =
-        let caused = all_at (cause view) (replies.Damaged name) (answers_of (line_of line) ran) among
-        (all_at (λ (l : Line). list_all (cause (view_of asked ran l)) (answers_of (line_of l) ran)) line (lines asked) listed legal.causes) in
-        let first = (and_parts (is_written_name name (first_of (damaged_names view))) (not (is_too_many_records_caused view)) caused).0 in
-        false≢true (subst (λ names. IsTrue (is_written_name name (first_of names))) undamaged first)
+  -- a line that is shown no damage doesn't answer that something is damaged
+  pub tells_none_of : damaged_names view ≡ [] → (name : List ℕ) → In (replies.Damaged name) (answers_of (line_of line) ran) → ⊥
+  tells_none_of none name among =
+      let caused = all_at (cause view) (replies.Damaged name) (answers_of (line_of line) ran) among
+      (all_at (λ (l : Line). list_all (cause (view_of asked ran l)) (answers_of (line_of l) ran)) line (lines asked) listed legal.causes) in
+      let first = (and_parts (is_written_name name (first_of (damaged_names view))) (not (is_too_many_records_caused view)) caused).0 in
+      false≢true (subst (λ names. IsTrue (is_written_name name (first_of names))) none first)
+
+  pub tells_none : IsTrue (looks_at_pages line.order) → (name : List ℕ) → In (replies.Damaged name) (answers_of (line_of line) ran) → ⊥
+  tells_none looks name among = tells_none_of (undamaged looks) name among

@@ -5,4 +5,7 @@
 
 mod laws;
 
-pub use laws::pages_are_undamaged;
+pub use laws::{
+    damage_is_told_of_versions_alone, pages_are_undamaged, settlers_are_undamaged,
+    settlers_find_their_own, settlers_settle_what_is_fixed,
+};
