@@ -10,9 +10,10 @@ use aft_id::{List, TxnId};
 use aft_model::{Attempt, By, Caller, Hold, Reply};
 use aft_records::{Commit, Keys, Record};
 use play::{
-    abort, aborted, admit, announce, begun, boot, bytes, commit, committed, crash, crash_beside,
-    doubt, drop_covered, end_boot, fetched, forget, get, held, key, learn, left, line, may_close,
-    may_end_begin, may_end_boot, may_end_fetch, may_finish, put, refuse_begin, replied, stored,
+    abort, aborted, admit, announce, announced, begun, boot, bytes, commit, committed, crash,
+    crash_beside, doubt, drop_covered, end_boot, fetched, forget, get, held, key, learn, left,
+    line, may_close, may_end_begin, may_end_boot, may_end_fetch, may_finish, put, refuse_begin,
+    replied, stored,
 };
 use std::alloc::Global;
 use std::process::Abort;
@@ -143,6 +144,16 @@ fn commits(rt: HostRuntime) {
     left(&rt, &mut node, line(9), attempt);
     assert!(rt; matches!(replied(&node), Some(Reply::Ended)));
     assert!(rt; announce(&rt, &mut node) == Some((1, 0)));
+    announced(&rt, &mut node);
+    let told = matches!(
+        replied(&node),
+        Some(Reply::Announced {
+            kept: 1,
+            pruned: 0,
+            dropped: 2,
+        })
+    );
+    assert!(rt; told);
     let second = write(&rt, alloc, &mut node, 10, 3, 1000);
     assert!(rt; second.time == 1001);
     drop_covered(&rt, &mut node);

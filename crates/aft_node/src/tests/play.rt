@@ -405,6 +405,17 @@ pub(super) fn left(rt: &impl Abort, node: &mut Node, by: By, attempt: Attempt) {
     node.ended(9, by, attempt, Reply::Ended);
 }
 
+/// The answer alone to an announcement whose commits were posted.
+pub(super) fn announced(rt: &impl Abort, node: &mut Node) {
+    may_answer(rt, node);
+    let posted = Reply::Announced {
+        kept: 1,
+        pruned: 0,
+        dropped: 2,
+    };
+    node.answer(12, line(94), posted);
+}
+
 /// Commits are learned.
 pub(super) fn learn(rt: &impl Abort, node: &mut Node, commits: List<Commit>) {
     may_answer(rt, node);
