@@ -45,7 +45,7 @@ use Rattle.law_boots.proofs.Real.{is_committed, taken}
 use Rattle.law_boots.proofs.Unasked.{length_taken}
 use Rattle.law_fetches.specs.Ends.{EndsFetch, is_behind_picks, is_picked_by}
 use Rattle.law_fetches.specs.Values.{TrueValue}
-use Rattle.law_fetches.proofs.Fetched.{pick_of, picked_of}
+use Rattle.law_fetches.proofs.Fetched.{Pick, pick_of, picked_of}
 use Rattle.law_fetches.proofs.Picked.{PickedCommit}
 use Rattle.law_fetches.proofs.Shown.{at_split, finds, get_shows, one_version, stays_true}
 use Rattle.law_fetches.proofs.Untried.{lawful_seen, open_there, picked_before, taken_seen, untried}
@@ -57,11 +57,14 @@ module _ (node capacity : ℕ) (of_node : IsFalse (eqb node 0)) (door : List Doo
   module _ (ends : EndsFetch a key id entry.act) (seen after : List DoorEntry) (got : DoorEntry) (parts : door ≡ seen ++ got ∷ after)
       (late : (e : NodeEntry) → In e history → IsTrue (same_line entry.by e.by) → IsTrue (picks_fetch a key id e.act) → e.front ≤ length seen) (short : length seen < entry.front)
       (answer : KeeperAnswer) (gets : got.act ≡ Call node a.inc (Get (version_name key id)) answer) where
-    abbrev its_commit : PickedCommit door ((((pick_of node capacity door lawful history more entry beside opens_then a key id ends).before_boot) ++ (pick_of node capacity door lawful history more entry beside opens_then a key id ends).boot ∷ []) ++ (pick_of node capacity door lawful history more entry beside opens_then a key id ends).between) (pick_of node capacity door lawful history more entry beside opens_then a key id ends).one key id
+    abbrev pick : Pick node capacity door lawful history more entry beside opens_then a key id ends
+    pick = pick_of node capacity door lawful history more entry beside opens_then a key id ends
+
+    abbrev its_commit : PickedCommit door ((pick.before_boot ++ pick.boot ∷ []) ++ pick.between) pick.one key id
     its_commit = picked_of node capacity door lawful history more entry beside opens_then a key id ends
 
     abbrev c : Commit
-    c = (picked_of node capacity door lawful history more entry beside opens_then a key id ends).commit
+    c = its_commit.commit
 
     lawful_there : Lawful seen
     lawful_there = lawful_seen node capacity of_node door lawful history more entry beside backs opens_then a key id ends seen (got ∷ after) parts late
@@ -78,7 +81,7 @@ module _ (node capacity : ℕ) (of_node : IsFalse (eqb node 0)) (door : List Doo
     committed_there : In c (committed seen)
     committed_there =
         subst (λ (h : List DoorEntry). In c (committed h)) (taken_seen node capacity of_node door lawful history more entry beside backs opens_then a key id ends seen (got ∷ after) parts late)
-        (seen_later c door (pick_of node capacity door lawful history more entry beside opens_then a key id ends).one.front (length seen)
+        (seen_later c door pick.one.front (length seen)
         (picked_before node capacity of_node door lawful history more entry beside backs opens_then a key id ends seen (got ∷ after) parts late) its_commit.seen)
 
     honest_there : Honest (seen ++ got ∷ [])

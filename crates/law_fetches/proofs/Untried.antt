@@ -16,7 +16,7 @@ use Rattle.aft_model.specs.declared.door.DoorAct.{DoorAct}
 use Rattle.aft_model.specs.declared.door.DoorAct.TheVariants as door_acts
 use Rattle.aft_model.specs.declared.door.DoorEntry.{DoorEntry}
 use Rattle.aft_model.specs.declared.node.NodeAct.{NodeAct}
-use Rattle.aft_model.specs.declared.node.NodeAct.TheVariants.{Boot, GiveUp}
+use Rattle.aft_model.specs.declared.node.NodeAct.TheVariants.{GiveUp}
 use Rattle.aft_model.specs.declared.node.NodeEntry.{NodeEntry}
 use Rattle.aft_model.specs.Claims.{given_up, gives_up}
 use Rattle.aft_model.specs.Committed.{committed}
@@ -59,7 +59,8 @@ use Rattle.law_boots.proofs.Nodes.{before, front-snoc, up}
 use Rattle.law_boots.proofs.Real.{in_whole, taken}
 use Rattle.law_boots.proofs.Unasked.{at_door, backed, front_rises, gives_what, nothing_given_up, order}
 use Rattle.law_fetches.specs.Ends.{EndsFetch}
-use Rattle.law_fetches.proofs.Fetched.{no_give_up, pick_of, picked_of, serves_there, to_pick}
+use Rattle.law_fetches.proofs.Picked.{PickedCommit}
+use Rattle.law_fetches.proofs.Fetched.{Pick, no_give_up, pick_of, picked_of, serves_there, to_pick}
 
 -- a history is what so long a beginning of it takes
 all_of : {A : Type 0} (xs ys : List A) → take (length xs) (xs ++ ys) ≡ xs
@@ -74,64 +75,48 @@ module _ (node capacity : ℕ) (of_node : IsFalse (eqb node 0)) (door : List Doo
   abbrev who : Incarnation
   who = incarnation node a.inc
 
-  -- the pick, and the boot before it
-  abbrev the_pick : NodeEntry
-  the_pick = (pick_of node capacity door lawful history more entry beside opens_then a key id ends).one
-
-  abbrev boot : NodeEntry
-  boot = (pick_of node capacity door lawful history more entry beside opens_then a key id ends).boot
-
-  abbrev before_boot : List NodeEntry
-  before_boot = (pick_of node capacity door lawful history more entry beside opens_then a key id ends).before_boot
-
-  abbrev between : List NodeEntry
-  between = (pick_of node capacity door lawful history more entry beside opens_then a key id ends).between
-
-  abbrev rest : List NodeEntry
-  rest = (pick_of node capacity door lawful history more entry beside opens_then a key id ends).rest
-
-  abbrev commits : List Commit
-  commits = (pick_of node capacity door lawful history more entry beside opens_then a key id ends).commits
+  -- the pick, the boot before it, and its commit
+  abbrev pick : Pick node capacity door lawful history more entry beside opens_then a key id ends
+  pick = pick_of node capacity door lawful history more entry beside opens_then a key id ends
 
   abbrev booted : List NodeEntry
-  booted = before_boot ++ boot ∷ []
+  booted = pick.before_boot ++ pick.boot ∷ []
 
-  -- its commit
-  abbrev pub c : Commit
-  c = (picked_of node capacity door lawful history more entry beside opens_then a key id ends).commit
+  abbrev of_pick : PickedCommit door (booted ++ pick.between) pick.one key id
+  of_pick = picked_of node capacity door lawful history more entry beside opens_then a key id ends
 
-  to_it : Beside node capacity door ((booted ++ between) ++ the_pick ∷ [])
+  abbrev c : Commit
+  c = of_pick.commit
+
+  to_it : Beside node capacity door ((booted ++ pick.between) ++ pick.one ∷ [])
   to_it = to_pick node capacity door lawful history more entry beside opens_then a key id ends
 
-  before_it : Beside node capacity door (booted ++ between)
-  before_it = before node capacity door (booted ++ between) the_pick to_it
-
-  boots_so : boot.act ≡ Boot a.inc commits
-  boots_so = (pick_of node capacity door lawful history more entry beside opens_then a key id ends).boots_so
+  before_it : Beside node capacity door (booted ++ pick.between)
+  before_it = before node capacity door (booted ++ pick.between) pick.one to_it
 
   -- the whole history, from the boot on
   abbrev behind_boot : List NodeEntry
-  behind_boot = between ++ the_pick ∷ (rest ++ entry ∷ more)
+  behind_boot = pick.between ++ pick.one ∷ (pick.rest ++ entry ∷ more)
 
   from_boot : whole ≡ booted ++ behind_boot
   from_boot =
       append_assoc history (entry ∷ []) more
-      ∙ (ap (λ (l : List NodeEntry). l ++ entry ∷ more) (pick_of node capacity door lawful history more entry beside opens_then a key id ends).parts
-      ∙ (append_assoc (booted ++ between) (the_pick ∷ rest) (entry ∷ more) ∙ append_assoc booted between (the_pick ∷ (rest ++ entry ∷ more))))
+      ∙ (ap (λ (l : List NodeEntry). l ++ entry ∷ more) pick.parts
+      ∙ (append_assoc (booted ++ pick.between) (pick.one ∷ pick.rest) (entry ∷ more) ∙ append_assoc booted pick.between (pick.one ∷ (pick.rest ++ entry ∷ more))))
 
   -- the boot has seen no more than the pick
-  boot_first : boot.front ≤ the_pick.front
+  boot_first : pick.boot.front ≤ pick.one.front
   boot_first =
-      let at_boot : front booted ≡ boot.front = front-snoc before_boot boot in
-      let rises : front booted ≤ front (booted ++ between) = front_rises node capacity door booted between before_it in
-      let last : front (booted ++ between) ≤ the_pick.front = up node capacity door (booted ++ between) the_pick to_it in
+      let at_boot : front booted ≡ pick.boot.front = front-snoc pick.before_boot pick.boot in
+      let rises : front booted ≤ front (booted ++ pick.between) = front_rises node capacity door booted pick.between before_it in
+      let last : front (booted ++ pick.between) ≤ pick.one.front = up node capacity door (booted ++ pick.between) pick.one to_it in
       omega arith
 
-  lawful_boot : Lawful (take boot.front door)
-  lawful_boot = (let r = taken boot.front door in lawful_begins (take boot.front door) r.0 (subst Lawful r.1 lawful))
+  lawful_boot : Lawful (take pick.boot.front door)
+  lawful_boot = (let r = taken pick.boot.front door in lawful_begins (take pick.boot.front door) r.0 (subst Lawful r.1 lawful))
 
-  sees : SeesGreatest who commits (take boot.front door)
-  sees = sees_greatest node capacity a.inc commits door lawful before_boot behind_boot boot (subst (Beside node capacity door) from_boot beside) boots_so (subst (λ (h : List NodeEntry). IsTrue (backs_give_ups node h door)) from_boot backs) of_node
+  sees : SeesGreatest who pick.commits (take pick.boot.front door)
+  sees = sees_greatest node capacity a.inc pick.commits door lawful pick.before_boot behind_boot pick.boot (subst (Beside node capacity door) from_boot beside) pick.boots_so (subst (λ (h : List NodeEntry). IsTrue (backs_give_ups node h door)) from_boot backs) of_node
 
   lawful_sees : Lawful (sees.before ++ sees.entry ∷ sees.after)
   lawful_sees = subst Lawful sees.parts lawful_boot
@@ -142,10 +127,10 @@ module _ (node capacity : ℕ) (of_node : IsFalse (eqb node 0)) (door : List Doo
   open_first : IsTrue (is_open sees.before)
   open_first =
       opened who of_node sees.before sees.after sees.entry lawful_sees sees.comes (λ i. subst (λ (h : List DoorEntry). IsFalse (given_up who i h)) sees.parts
-      (nothing_given_up node capacity door a.inc commits before_boot behind_boot boot (subst (Beside node capacity door) from_boot beside) boots_so (subst (λ (h : List NodeEntry). IsTrue (backs_give_ups node h door)) from_boot backs) i))
+      (nothing_given_up node capacity door a.inc pick.commits pick.before_boot behind_boot pick.boot (subst (Beside node capacity door) from_boot beside) pick.boots_so (subst (λ (h : List NodeEntry). IsTrue (backs_give_ups node h door)) from_boot backs) i))
 
   at_whole : In c (committed door)
-  at_whole = in_whole c the_pick.front door (picked_of node capacity door lawful history more entry beside opens_then a key id ends).seen
+  at_whole = in_whole c pick.one.front door of_pick.seen
 
   its : IsUuid c.id.uuid
   its = its_uuid door lawful c at_whole
@@ -154,16 +139,16 @@ module _ (node capacity : ℕ) (of_node : IsFalse (eqb node 0)) (door : List Doo
   not_before : Tried sees.before (Full c) → ⊥
   not_before tried =
       let superseded : Superseded c (committed sees.before) = tried_superseded c sees.before lawful_first its open_first tried in
-      let knows : IsTrue (is_among c (known (booted ++ between))) = any_from (same_commit c) c (known (booted ++ between)) (picked_of node capacity door lawful history more entry beside opens_then a key id ends).knows (same_commit_itself c) in
-      true≢false (sym knows ∙ never_known node capacity a.inc commits door lawful before_boot between boot before_it boots_so sees c superseded (serves_there node capacity door lawful history more entry beside opens_then a key id ends))
+      let knows : IsTrue (is_among c (known (booted ++ pick.between))) = any_from (same_commit c) c (known (booted ++ pick.between)) of_pick.knows (same_commit_itself c) in
+      true≢false (sym knows ∙ never_known node capacity a.inc pick.commits door lawful pick.before_boot pick.between pick.boot before_it pick.boots_so sees c superseded (serves_there node capacity door lawful history more entry beside opens_then a key id ends))
 
   -- ---- at a place between the pick and the end
 
   module _ (seen after : List DoorEntry) (parts : door ≡ seen ++ after) (late : (e : NodeEntry) → In e history → IsTrue (same_line entry.by e.by) → IsTrue (picks_fetch a key id e.act) → e.front ≤ length seen) where
-    pub picked_before : the_pick.front ≤ length seen
+    pub picked_before : pick.one.front ≤ length seen
     picked_before =
-        let p = pick_of node capacity door lawful history more entry beside opens_then a key id ends in
-        late p.one (subst (In p.one) (sym p.parts) (in_back p.one (booted ++ between) (p.one ∷ p.rest) (inl refl))) p.mine p.picks
+        let p = pick in
+        late p.one (subst (In p.one) (sym p.parts) (in_back p.one (booted ++ pick.between) (p.one ∷ p.rest) (inl refl))) p.mine p.picks
 
     pub lawful_seen : Lawful seen
     lawful_seen = lawful_begins seen after (subst Lawful parts lawful)
@@ -173,7 +158,7 @@ module _ (node capacity : ℕ) (of_node : IsFalse (eqb node 0)) (door : List Doo
 
     from_up : (later : List DoorEntry) × (seen ≡ sees.before ++ sees.entry ∷ later)
     from_up =
-        let m = grows boot.front (length seen) door (let first = boot_first in let behind_it : the_pick.front ≤ length seen = picked_before in omega arith) in
+        let m = grows pick.boot.front (length seen) door (let first = boot_first in let behind_it : pick.one.front ≤ length seen = picked_before in omega arith) in
         (sees.after ++ m.0, sym taken_seen ∙ (m.1 ∙ (ap (λ (l : List DoorEntry). l ++ m.0) sees.parts ∙ append_assoc sees.before (sees.entry ∷ sees.after) m.0)))
 
     pub open_there : IsTrue (is_open seen)
@@ -203,7 +188,7 @@ module _ (node capacity : ℕ) (of_node : IsFalse (eqb node 0)) (door : List Doo
           let at = split_at x.0 first x.1 in
           let gave = at_door who c.id x.0.act x.2 in
           let same : c.id ≡ gave.id = same_ids c.id gave.id (and_parts (same_incarnation who (incarnation who.node who.inc)) (same_id c.id gave.id) (subst (λ (act : DoorAct). IsTrue (gives_up who c.id act)) gave.is x.2)).1 in
-          let named : gave.id ≡ id = sym same ∙ (picked_of node capacity door lawful history more entry beside opens_then a key id ends).its_id in
+          let named : gave.id ≡ id = sym same ∙ of_pick.its_id in
           let sum : length seen ≡ length ((at.0 ++ x.0 ∷ at.1) ++ m) = ap length (is ∙ ap (λ (l : List DoorEntry). l ++ m) at.2) in
           let long : length ((at.0 ++ x.0 ∷ at.1) ++ m) ≡ length at.0 + length (x.0 ∷ (at.1 ++ m)) = ap length (append_assoc at.0 (x.0 ∷ at.1) m) ∙ length-append at.0 (x.0 ∷ (at.1 ++ m)) in
           let parted : door ≡ at.0 ++ (x.0 ∷ ((at.1 ++ m) ++ after)) = parts ∙ (ap (λ (l : List DoorEntry). l ++ after) (is ∙ (ap (λ (l : List DoorEntry). l ++ m) at.2 ∙ append_assoc at.0 (x.0 ∷ at.1) m)) ∙ append_assoc at.0 (x.0 ∷ (at.1 ++ m)) after) in
