@@ -1,5 +1,5 @@
 -- What a line fetches isn't given up while the fetch stands open.
-use Rattle.std.proofs.Common.{◌≡◌, ◌≤◌, ◌<◌, ℕ, ◌&&◌, not, List, [], ◌∷◌, ◌++◌, refl, sym, ap, subst, ◌∙◌, inl, inr, append_assoc, eq-eqb, arith}
+use Rattle.std.proofs.Common.{◌≡◌, ◌≤◌, ◌<◌, ℕ, ◌&&◌, not, List, [], ◌∷◌, ◌++◌, refl, sym, ap, subst, ◌∙◌, inl, inr, append_assoc, arith}
 use Rattle.std.specs.Prelude.{IsTrue, IsFalse, Option, nat_lt}
 use Rattle.std.specs.List.{list_any}
 use Rattle.std.specs.Str.{bytes_eq}
@@ -54,7 +54,7 @@ picks_what a key id act is = absurd (false≢true is)
 -- ---- while the fetch is open
 
 -- at a place where the service goes on, and the attempt that has read the version is there, its commit is known
-module _ (node capacity inc : ℕ) (door : List DoorEntry) (lawful : Lawful door) (a : Attempt) (key : List ℕ) (id : TxnId) (first middle rest : List NodeEntry) (pick : NodeEntry)
+module _ (node capacity : ℕ) (door : List DoorEntry) (lawful : Lawful door) (a : Attempt) (key : List ℕ) (id : TxnId) (first middle rest : List NodeEntry) (pick : NodeEntry)
     (beside : Beside node capacity door ((first ++ pick ∷ middle) ++ rest)) (opens : Opens ((first ++ pick ∷ middle) ++ rest)) (picks : IsTrue (picks_fetch a key id pick.act)) where
   abbrev here : List NodeEntry
   here = first ++ pick ∷ middle
@@ -79,37 +79,27 @@ module _ (node capacity inc : ℕ) (door : List DoorEntry) (lawful : Lawful door
   goes_at s (Select b got (picked.Fetch i)) is = refl
   goes_at s act is = absurd (false≢true is)
 
-  serve_before : a.inc ≡ inc → IsTrue (serves inc (node_state first))
-  serve_before of_a = subst (λ (i : ℕ). IsTrue (serves i (node_state first))) of_a (acts_of_own node capacity a first pick at_pick.legal (picks_what a key id pick.act picks)).1
+  serve_first : IsTrue (serves a.inc (node_state first))
+  serve_first = (acts_of_own node capacity a first pick at_pick.legal (picks_what a key id pick.act picks)).1
 
-  pub serve_pick : a.inc ≡ inc → IsTrue (serves inc (node_state (first ++ pick ∷ [])))
-  serve_pick of_a =
-      let at = serving inc (node_state first) (serve_before of_a) in
-      let goes : node_state (first ++ pick ∷ []) ≡ IsServing (extended at.0 pick) =
-      node_state-snoc first pick ∙ (ap (λ (st : NodeState). state_after st pick pick.act) at.1 ∙ goes_at at.0 pick.act picks) in
-      subst (λ (st : NodeState). IsTrue (serves inc st)) (sym goes) (eq-eqb inc at.0.inc (sym at.2))
-
-  module _ (of_a : a.inc ≡ inc) (serve : IsTrue (serves inc (node_state here))) (still : IsTrue (serves inc (node_state (here ++ rest)))) (runs : IsTrue (is_running (attempt_state a (part (here ++ rest))))) where
-    serve_first : IsTrue (serves inc (node_state first))
-    serve_first = serve_before of_a
-
+  module _ (serve : IsTrue (serves a.inc (node_state here))) (still : IsTrue (serves a.inc (node_state (here ++ rest)))) (runs : IsTrue (is_running (attempt_state a (part (here ++ rest))))) where
     admitted_here : IsAdmitted a (part here)
     admitted_here =
-        still_admitted node capacity inc a first (pick ∷ middle) now.legal serve_first serve
-        (there_admitted node capacity inc first (before node capacity door first pick at_pick).legal serve_first a (runs_there pick.act pick.answer picks (done node capacity door first pick at_pick)))
+        still_admitted node capacity a.inc a first (pick ∷ middle) now.legal serve_first serve
+        (there_admitted node capacity a.inc first (before node capacity door first pick at_pick).legal serve_first a (runs_there pick.act pick.answer picks (done node capacity door first pick at_pick)))
 
     there_here : There (attempt_state a (part here))
     there_here = false_from_ne_true (is_gone (attempt_state a (part here))) (λ gone.
-        true≢false (sym (gone_for_good node capacity inc a here rest beside.legal serve still admitted_here gone) ∙ running_there (attempt_state a (part (here ++ rest))) runs))
+        true≢false (sym (gone_for_good node capacity a.inc a here rest beside.legal serve still admitted_here gone) ∙ running_there (attempt_state a (part (here ++ rest))) runs))
 
     -- the pick stands in the service
     in_service_here : (t : Service) × (node_state here ≡ IsServing t) × In pick t.part
     in_service_here =
-        let at = serving inc (node_state first) serve_first in
+        let at = serving a.inc (node_state first) serve_first in
         let goes : node_state (first ++ pick ∷ []) ≡ IsServing (extended at.0 pick) =
         node_state-snoc first pick ∙ (ap (λ (st : NodeState). state_after st pick pick.act) at.1 ∙ goes_at at.0 pick.act picks) in
-        let kept = kept_within node capacity inc (λ (s : Service). In pick s.part) (λ h s e legal was may among. in_front pick s.part (e ∷ []) among) (first ++ pick ∷ []) middle (extended at.0 pick)
-        (subst (LegalNode node capacity) long now.legal) goes at.2 (in_back pick at.0.part (pick ∷ []) (inl refl)) (subst (λ (h : List NodeEntry). IsTrue (serves inc (node_state h))) long serve) in
+        let kept = kept_within node capacity a.inc (λ (s : Service). In pick s.part) (λ h s e legal was may among. in_front pick s.part (e ∷ []) among) (first ++ pick ∷ []) middle (extended at.0 pick)
+        (subst (LegalNode node capacity) long now.legal) goes at.2 (in_back pick at.0.part (pick ∷ []) (inl refl)) (subst (λ (h : List NodeEntry). IsTrue (serves a.inc (node_state h))) long serve) in
         (kept.0, subst (λ (h : List NodeEntry). node_state h ≡ IsServing kept.0) (sym long) kept.1, kept.2)
 
     read_here : In (record { key = key; id = id }) (reads a (part here)) × IsFalse (same_id zero_id id)
@@ -119,7 +109,7 @@ module _ (node capacity inc : ℕ) (door : List DoorEntry) (lawful : Lawful door
         let read = told.fetched pick at.2 a key id picks in
         (subst (λ (l : List NodeEntry). In (record { key = key; id = id }) (reads a l)) (sym (part-at here at.0 at.1)) read.0, read.1)
 
-    pub known_here : IsTrue (has_id id (known here))
+    known_here : IsTrue (has_id id (known here))
     known_here =
         let there = filter_in (λ (x : Attempt). not (is_gone (attempt_state x (part here)))) a (attempts (part here)) (admitted_in a (part here) admitted_here) (ap not there_here) in
         let pinned : IsTrue (is_pinned id (part here)) =
@@ -268,7 +258,7 @@ module _ (node capacity : ℕ) (door : List DoorEntry) (lawful : Lawful door) (h
       in_history m is =
           elim (order earlier one m first_part pick_of.one pick_of.rest (sym is ∙ pick_of.parts)) [
             | inl between ↦ (let here : history ≡ (first_part ++ pick_of.one ∷ between.0) ++ (one ∷ m) = is ∙ ap (λ (l : List NodeEntry). l ++ one ∷ m) between.1 in
-                not_given_up node capacity a.inc door lawful a key id first_part between.0 (one ∷ m) pick_of.one (subst (Beside node capacity door) here its) (subst Opens here split.0) pick_of.picks refl
+                not_given_up node capacity door lawful a key id first_part between.0 (one ∷ m) pick_of.one (subst (Beside node capacity door) here its) (subst Opens here split.0) pick_of.picks
                 (subst (λ (h : List NodeEntry). IsTrue (serves a.inc (node_state h))) between.1 serve) (subst (λ (h : List NodeEntry). IsTrue (serves a.inc (node_state h))) here serve_end)
                 (subst (λ (h : List NodeEntry). IsTrue (is_running (attempt_state a (part h)))) here runs_end) one (subst (λ (h : List NodeEntry). Beside node capacity door (h ++ one ∷ [])) between.1 with_one) gives)
             | inr others ↦ elim others [
