@@ -59,7 +59,7 @@ open_rule history entry = ends_open_fetch (part history) entry.by entry.act
 abbrev pub Opens : List NodeEntry → Type 0
 Opens history = IsTrue (each_after open_rule [] history)
 
-abbrev TellsIn : NodeState → Type 0
+abbrev pub TellsIn : NodeState → Type 0
 TellsIn (IsServing s) = Tells s
 TellsIn state = Unit {0}
 

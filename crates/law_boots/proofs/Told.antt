@@ -84,7 +84,7 @@ reads_picked a b key p id before same is =
 one_id : (i id : TxnId) → i ∷ [] ≡ id ∷ [] → i ≡ id
 one_id i id is = cc
 
-from_read : (own : Option (List ℕ)) (key : List ℕ) (kept : List Kept) (ch : Choice) (id : TxnId) → read_by (own_or own (picked_by key kept ch)) ≡ id ∷ [] → (own_or own (picked_by key kept ch) ≡ picked.Absent → ⊥) → ch ≡ choices.Version id
+pub from_read : (own : Option (List ℕ)) (key : List ℕ) (kept : List Kept) (ch : Choice) (id : TxnId) → read_by (own_or own (picked_by key kept ch)) ≡ id ∷ [] → (own_or own (picked_by key kept ch) ≡ picked.Absent → ⊥) → ch ≡ choices.Version id
 from_read (Some value) key kept ch id is other = absurd (let no : [] ≡ id ∷ [] = is in cc)
 from_read None key kept (choices.Version i) id is other = ap choices.Version (by_kept (kept_value key i kept) is)
   where
@@ -94,7 +94,7 @@ from_read None key kept (choices.Version i) id is other = ap choices.Version (by
 from_read None key kept choices.Absent id is other = absurd (other refl)
 from_read None key kept (choices.NoneFits blocked) id is other = absurd (let no : [] ≡ id ∷ [] = is in cc)
 
-not_absent : (q p : Picked) → IsTrue (same_picked q p) → (p ≡ picked.Absent → ⊥) → q ≡ picked.Absent → ⊥
+pub not_absent : (q p : Picked) → IsTrue (same_picked q p) → (p ≡ picked.Absent → ⊥) → q ≡ picked.Absent → ⊥
 not_absent q p same other is = none p (subst (λ (x : Picked). IsTrue (same_picked x p)) is same) other
   where
     none : (p : Picked) → IsTrue (same_picked picked.Absent p) → (p ≡ picked.Absent → ⊥) → ⊥

@@ -63,7 +63,7 @@ pub record Backed (test : List NodeEntry → NodeEntry → Bool) (first entries 
   pub parts : entries ≡ front_part ++ one ∷ back_part
   pub passes : IsTrue (test (first ++ front_part) one)
 
-backed : (test : List NodeEntry → NodeEntry → Bool) (first entries : List NodeEntry) → IsTrue (some_after test first entries) → Backed test first entries
+pub backed : (test : List NodeEntry → NodeEntry → Bool) (first entries : List NodeEntry) → IsTrue (some_after test first entries) → Backed test first entries
 backed test first [] is = absurd (false≢true is)
 backed test first (e ∷ entries) is =
     elim (or_cases (test first e) (some_after test (first ++ e ∷ []) entries) is) [
@@ -78,29 +78,29 @@ backed test first (e ∷ entries) is =
           })
     ]
 
-gives_what : (id : TxnId) (act : NodeAct) → IsTrue (is_give_up id act) → (i : TxnId) × (act ≡ GiveUp i)
+pub gives_what : (id : TxnId) (act : NodeAct) → IsTrue (is_give_up id act) → (i : TxnId) × (act ≡ GiveUp i)
 gives_what id (GiveUp i) is = (i, refl)
 gives_what id act is = absurd (false≢true is)
 
 -- a give-up at the door of an incarnation
-record AtDoor (who : Incarnation) (act : DoorAct) : Type 0 where
-  id : TxnId
-  is : act ≡ door_acts.GiveUp who.node who.inc id
+pub record AtDoor (who : Incarnation) (act : DoorAct) : Type 0 where
+  pub id : TxnId
+  pub is : act ≡ door_acts.GiveUp who.node who.inc id
 
-at_door : (who : Incarnation) (id : TxnId) (act : DoorAct) → IsTrue (gives_up who id act) → AtDoor who act
+pub at_door : (who : Incarnation) (id : TxnId) (act : DoorAct) → IsTrue (gives_up who id act) → AtDoor who act
 at_door who id (door_acts.GiveUp n i given) is =
     let same = and_parts (eqb who.node n) (eqb who.inc i) (and_parts (same_incarnation who (incarnation n i)) (same_id id given) is).0 in
     let one : ℕ → ℕ → DoorAct = λ a b. door_acts.GiveUp a b given in
     record { id = given; is = ap (λ a. one a i) (sym (eqb-true who.node n same.0)) ∙ ap (λ b. one who.node b) (sym (eqb-true who.inc i same.1)) }
 at_door who id act is = absurd (false≢true is)
 
-length_taken : {A : Type 0} (n : ℕ) (xs : List A) → length (take n xs) ≤ n
+pub length_taken : {A : Type 0} (n : ℕ) (xs : List A) → length (take n xs) ≤ n
 length_taken zero xs = omega arith
 length_taken (suc n) [] = omega arith
 length_taken (suc n) (x ∷ xs) = (let rest = length_taken n xs in omega arith)
 
 module _ (node capacity : ℕ) (door : List DoorEntry) where
-  front_rises : (history more : List NodeEntry) → Beside node capacity door (history ++ more) → front history ≤ front (history ++ more)
+  pub front_rises : (history more : List NodeEntry) → Beside node capacity door (history ++ more) → front history ≤ front (history ++ more)
   front_rises history [] beside = subst (λ (h : List NodeEntry). front history ≤ front h) (sym (append-nil history)) (omega arith)
   front_rises history (x ∷ more) beside =
       let longer : Beside node capacity door ((history ++ x ∷ []) ++ more) = subst (Beside node capacity door) (sym (append_assoc history (x ∷ []) more)) beside in

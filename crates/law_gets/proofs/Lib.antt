@@ -1,1 +1,4 @@
 pub mod Gets
+pub mod Values
+pub mod Stands
+pub mod Losses

@@ -58,7 +58,7 @@ first_gets (acts.Select a key (picked.Fetch id)) = (
 first_gets (acts.Select a key pick) = (λ f is. no_fetch f (acts.Select a key pick) is, λ b is. absurd (false≢true is))
 first_gets act = tt
 
-down_ends : (act : NodeAct) (answer : Option Reply) (a : Attempt) → IsTrue (answers_down act answer) → IsTrue (ends_fetch a act) → ⊥
+pub down_ends : (act : NodeAct) (answer : Option Reply) (a : Attempt) → IsTrue (answers_down act answer) → IsTrue (ends_fetch a act) → ⊥
 down_ends acts.Nothing answer a down ends = false≢true ends
 down_ends act answer a down ends = false≢true down
 
@@ -143,7 +143,7 @@ module _ (ends : Ends) where
   line_goes key nodes (HasFetched a its id place) turn f is = (let same : a ≡ f.attempt = (let e : record { attempt = a; key = its; id = id } ≡ f = cc in ap (λ (g : Fetch). g.attempt) e) in subst (λ (x : Attempt). GoesIf x turn (closed_by ends a (ends_get a its id place) turn)) same (closed_goes a (ends_get a its id place) turn))
   line_goes key nodes position turn f is = absurd (let e : None ≡ Some f = is in cc)
 
-  ended_none : (key nodes : List ℕ) (position : Progress) (turn : Turn) → IsTrue (has_ended position) → advance (Get key) nodes ends position turn ≡ None
+  pub ended_none : (key nodes : List ℕ) (position : Progress) (turn : Turn) → IsTrue (has_ended position) → advance (Get key) nodes ends position turn ≡ None
   ended_none key nodes IsOver turn is = refl
   ended_none key nodes (Stopped a) turn is = refl
   ended_none key nodes position turn is = absurd (false≢true is)

@@ -9,6 +9,8 @@ pub mod GetTurns
 pub mod GetLines
 pub mod Lines
 pub mod OpenFetches
+pub mod GetOrder
+pub mod Between
 pub mod Placed
 pub mod OfficeLines
 pub mod OrphanLines

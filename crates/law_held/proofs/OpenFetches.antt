@@ -60,7 +60,7 @@ use Rattle.law_held.proofs.Lines.{leads}
 -- ---- commands
 
 -- a get, or another command
-abbrev GetOrNot : Command → Type 0
+abbrev pub GetOrNot : Command → Type 0
 GetOrNot command = ((key : List ℕ) × (command ≡ commands.Get key)) ⊎ ((nodes : List ℕ) (ends : Ends) (line : List Turn) → fetch_behind nodes ends line (Some command) ≡ None) × ((a : Attempt) (act : NodeAct) → IsTrue (makes_at_node command act) → IsTrue (ends_fetch a act) → ⊥)
 
 -- only gets end fetches
@@ -69,11 +69,11 @@ other_ends command none a (acts.Value b key id place kept) made is = true≢fals
 other_ends command none a (acts.Lost b key id) made is = true≢false (sym made ∙ (none b key id 0 false).1)
 other_ends command none a act made is = false≢true is
 
-get_or_not : (command : Command) → GetOrNot command
+pub get_or_not : (command : Command) → GetOrNot command
 get_or_not (commands.Get key) = inl (key, refl)
 get_or_not command = inr (λ nodes ends line. refl, other_ends command (λ b key id place kept. (refl, refl)))
 
-boots_none : (a : Attempt) (act : NodeAct) → IsTrue (is_of_boot act) → IsTrue (ends_fetch a act) → ⊥
+pub boots_none : (a : Attempt) (act : NodeAct) → IsTrue (is_of_boot act) → IsTrue (ends_fetch a act) → ⊥
 boots_none a (acts.Value b key id place kept) boot is = false≢true boot
 boots_none a (acts.Lost b key id) boot is = false≢true boot
 boots_none a act boot is = false≢true is

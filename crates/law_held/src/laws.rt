@@ -1,17 +1,24 @@
 //! Laws of claims over whole runs, as calls that do nothing and promise them.
 
-ghost use Rattle.std.specs.Prelude.{◌≡◌, ◌++◌, ◌||◌, IsFalse, IsTrue, List, [], ℕ};
+ghost use Rattle.std.specs.Prelude.{◌≡◌, ◌++◌, ◌||◌, ◌∷◌, ◌≤◌, ◌<◌, Bool, IsFalse, IsTrue, List, [], ℕ};
 ghost use Rattle.aft_model.specs.declared.caller.By.{By};
+ghost use Rattle.aft_model.specs.declared.door.DoorAct.{DoorAct};
+ghost use Rattle.aft_model.specs.declared.node.NodeAct.TheVariants.{Value};
+ghost use Rattle.aft_model.specs.declared.node.NodeEntry.{NodeEntry};
 ghost use Rattle.aft_model.specs.declared.office.OfficeEntry.{OfficeEntry};
+ghost use Rattle.aft_model.specs.Attempts.{ends_fetch};
 ghost use Rattle.aft_model.specs.Membership.{incarnation, is_up};
 ghost use Rattle.aft_model.specs.NodeSights.{is_fenced};
 ghost use Rattle.aft_model.specs.NodeState.{boots, node_state, serves};
 ghost use Rattle.aft_model.specs.Office.{is_legal_alone};
+ghost use Rattle.aft_model.specs.ScanRun.{same_line};
+ghost use Rattle.aft_model.proofs.Histories.{In};
 ghost use Rattle.aft_lines.specs.Asked.{Asked, Ran};
-ghost use Rattle.aft_lines.specs.Holding.{ClaimsHeld, DeskHeld, FetchesStayOpen};
+ghost use Rattle.aft_lines.specs.Holding.{ClaimsHeld, DeskHeld, FetchesStayOpen, picks_fetch};
 ghost use Rattle.aft_lines.specs.LegalTrace.{LegalTrace, are_asks};
 ghost use Rattle.aft_lines.specs.RunsSoFar.{RunsSoFar};
 ghost use Rattle.aft_lines.specs.Steps.{Made, door_steps};
+ghost use Rattle.aft_lines.specs.Turns.{AtDoor, turns};
 ghost use Rattle.law_holders.specs.Rows.{is_of_node};
 ghost use Rattle.law_claims.specs.Desk.{LiesAtDesk};
 ghost use Rattle.law_claims.specs.Moments.{node_steps, scene_of};
@@ -20,7 +27,8 @@ ghost use Rattle.law_held.specs.Collecting.{RunsUntilEnded};
 ghost use Rattle.law_held.specs.Copies.{CopiersLie, CopiesStand, CrashesSpare, MarksBesideNone, copier_of, has_copier};
 ghost use Rattle.law_held.specs.Desk.{LinesDiffer, desk_of, is_script};
 ghost use Rattle.law_held.specs.Fenced.{fencing, fencing_ran};
-ghost use Rattle.law_held.specs.Fetching.{KeepsFetches, fetch_of};
+ghost use Rattle.law_steps.specs.Histories.{history_in};
+ghost use Rattle.law_held.specs.Fetching.{Fetch, KeepsFetches, fetch_of};
 ghost use Rattle.law_held.specs.Owning.{Owns};
 ghost use Rattle.law_held.specs.Standing.{ClaimsAreNew, GetsStand, LinesStand, RoundsStand, TurnsFind};
 ghost use Rattle.law_held.specs.Starting.{StartsStand};
@@ -53,6 +61,15 @@ pub fn runs_keep_fetches()
 pub fn fetches_stay_open()
     ensures so_far { (asked : Asked) (ran : Ran) → RunsSoFar asked ran → FetchesStayOpen ran.trace }
     ensures legal { (asked : Asked) (ran : Ran) → LegalTrace asked ran → FetchesStayOpen ran.trace }
+{}
+
+/// So in a run so far, and in a legal trace, what the line of a fetch that ends did at the door stands behind its pick and before the
+/// end: at a place that isn't below the front of the pick, and is below that of the end. And a value comes from such a place.
+pub fn gets_stand_between()
+    ensures so_far { (asked : Asked) (ran : Ran) (number place : ℕ) (act : DoorAct) (before more : List NodeEntry) (entry pick : NodeEntry) (f : Fetch) → RunsSoFar asked ran → history_in number 1 ran.trace.nodes ≡ before ++ entry ∷ more → IsTrue (ends_fetch f.attempt entry.act) → In pick before → IsTrue (same_line entry.by pick.by) → IsTrue (picks_fetch f.attempt f.key f.id pick.act) → In (AtDoor place act) (turns entry.by ran.trace) → (pick.front ≤ place) × (place < entry.front) }
+    ensures legal { (asked : Asked) (ran : Ran) (number place : ℕ) (act : DoorAct) (before more : List NodeEntry) (entry pick : NodeEntry) (f : Fetch) → LegalTrace asked ran → history_in number 1 ran.trace.nodes ≡ before ++ entry ∷ more → IsTrue (ends_fetch f.attempt entry.act) → In pick before → IsTrue (same_line entry.by pick.by) → IsTrue (picks_fetch f.attempt f.key f.id pick.act) → In (AtDoor place act) (turns entry.by ran.trace) → (pick.front ≤ place) × (place < entry.front) }
+    ensures value_so_far { (asked : Asked) (ran : Ran) (number place : ℕ) (kept : Bool) (before more : List NodeEntry) (entry : NodeEntry) (f : Fetch) → RunsSoFar asked ran → history_in number 1 ran.trace.nodes ≡ before ++ entry ∷ more → entry.act ≡ Value f.attempt f.key f.id place kept → (act : DoorAct) × In (AtDoor place act) (turns entry.by ran.trace) }
+    ensures value_legal { (asked : Asked) (ran : Ran) (number place : ℕ) (kept : Bool) (before more : List NodeEntry) (entry : NodeEntry) (f : Fetch) → LegalTrace asked ran → history_in number 1 ran.trace.nodes ≡ before ++ entry ∷ more → entry.act ≡ Value f.attempt f.key f.id place kept → (act : DoorAct) × In (AtDoor place act) (turns entry.by ran.trace) }
 {}
 
 /// At each moment of a run so far, and of a legal trace, each UUID lies at the desk as the rounds of orphans hold it: either
