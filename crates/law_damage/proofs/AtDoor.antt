@@ -1,5 +1,5 @@
 -- What a line's turns at the door are in the door's history, and that no line of a run is the opening.
-use Rattle.std.proofs.Common.{◌≡◌, ℕ, Bool, true, false, suc, List, [], ◌∷◌, ◌++◌, refl, sym, subst, inl, inr}
+use Rattle.std.proofs.Common.{◌≡◌, ℕ, Bool, true, false, suc, List, [], ◌∷◌, ◌++◌, ◌+◌, ◌∙◌, refl, sym, subst, inl, inr, arith, length, append_assoc, length-append}
 use Rattle.std.specs.Prelude.{IsTrue, if◌then◌else◌}
 use Rattle.std.specs.List.{list_all}
 use Rattle.std.proofs.lemmas.Bool.{and_parts, false≢true}
@@ -22,9 +22,19 @@ use Rattle.law_runs.proofs.Members.{turns_in}
 
 -- ---- a turn at the door is an entry of the line there
 
--- where a turn is at the door, an entry of the line has its act; of others nothing
+-- an entry of a line at a place of the door's history, with what stands before it and behind it
+pub record Placed (door : List DoorEntry) (by : By) (place : ℕ) (act : DoorAct) : Type 0 where
+  pub before : List DoorEntry
+  pub entry : DoorEntry
+  pub after : List DoorEntry
+  pub parts : door ≡ before ++ entry ∷ after
+  pub is_at : length before ≡ place
+  pub does : act ≡ entry.act
+  pub its : IsTrue (same_line by entry.by)
+
+-- where a turn is at the door, an entry of the line stands there and has its act; of others nothing
 abbrev pub Entered : List DoorEntry → By → Turn → Type 0
-Entered door by (AtDoor place act) = (e : DoorEntry) × In e door × (act ≡ e.act) × IsTrue (same_line by e.by)
+Entered door by (AtDoor place act) = Placed door by place act
 Entered door by turn = true ≡ true
 
 module _ (door : List DoorEntry) (by : By) (x : Turn) where
@@ -54,11 +64,11 @@ module _ (door : List DoorEntry) (by : By) (x : Turn) where
     | inr later ↦ at_office (before ++ entry ∷ []) entries later
   ]
 
-  at_door : (from : ℕ) (rest : List DoorEntry) → ((e : DoorEntry) → In e rest → In e door) → In x (door_turns by from rest) → Entered door by x
-  at_door from [] within among = absurd among
-  at_door from (entry ∷ entries) within among = elim (in_append x (if same_line by entry.by then AtDoor from entry.act ∷ [] else []) (door_turns by (suc from) entries) among) [
-    | inl here ↦ if_own (AtDoor from entry.act) (same_line by entry.by) (λ own. (entry, within entry (inl refl), refl, own)) here
-    | inr later ↦ at_door (suc from) entries (λ e more. within e (inr more)) later
+  at_door : (before rest : List DoorEntry) → door ≡ before ++ rest → In x (door_turns by (length before) rest) → Entered door by x
+  at_door before [] is among = absurd among
+  at_door before (entry ∷ entries) is among = elim (in_append x (if same_line by entry.by then AtDoor (length before) entry.act ∷ [] else []) (door_turns by (suc (length before)) entries) among) [
+    | inl here ↦ if_own (AtDoor (length before) entry.act) (same_line by entry.by) (λ own. record { before = before; entry = entry; after = entries; parts = is; is_at = refl; does = refl; its = own }) here
+    | inr later ↦ at_door (before ++ entry ∷ []) entries (is ∙ sym (append_assoc before (entry ∷ []) entries)) (subst (λ (n : ℕ). In x (door_turns by n entries)) (let one : length (before ++ entry ∷ []) ≡ length before + 1 = length-append before (entry ∷ []) in omega arith) later)
   ]
 
 pub entered : (by : By) (trace : Trace) (x : Turn) → In x (turns by trace) → Entered trace.door by x
@@ -66,7 +76,7 @@ entered by trace x among =
     elim (in_append x (nodes_turns by 1 trace.nodes ++ door_turns by 0 trace.door) (office_turns by [] trace.office) (turns_in by trace x among)) [
       | inl first ↦ elim (in_append x (nodes_turns by 1 trace.nodes) (door_turns by 0 trace.door) first) [
         | inl node ↦ at_nodes trace.door by x 1 trace.nodes node
-        | inr door ↦ at_door trace.door by x 0 trace.door (λ e here. here) door
+        | inr door ↦ at_door trace.door by x [] trace.door refl door
       ]
       | inr office ↦ at_office trace.door by x [] trace.office office
     ]

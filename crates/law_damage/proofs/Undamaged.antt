@@ -48,7 +48,6 @@ use Rattle.law_claims.proofs.Scenes.{same_by}
 use Rattle.law_runs.specs.Runs.{Goes}
 use Rattle.law_runs.proofs.LegalRuns.{legal_goes}
 use Rattle.law_whole.specs.Readable.{is_of_ids}
-use Rattle.law_whole.proofs.Lists.{split_at}
 use Rattle.law_whole.proofs.Readable.{shown_reads}
 use Rattle.law_answers.proofs.Scans.{damaged}
 use Rattle.law_promise.proofs.Doors.{lawful_door}
@@ -116,14 +115,13 @@ module _ (asked : Asked) (ran : Ran) (legal : LegalTrace asked ran) (honest : Ho
   pub reads_there : (place : ℕ) (act : DoorAct) → In (AtDoor place act) (turns (line_of line) ran.trace) → (pair : Pair) → In pair (pairs_in act) → (IsTrue (is_answered act) → IsTrue (is_of_ids pair.name)) → IsTrue (has_reading pair)
   reads_there place act among pair shown named =
       let e = entered (line_of line) ran.trace (AtDoor place act) among in
-      let at = split_at e.0 door e.1 in
-      let now : Lawful (at.0 ++ e.0 ∷ []) = lawful_begins (at.0 ++ e.0 ∷ []) at.1 (subst Lawful (at.2 ∙ sym (append_assoc at.0 (e.0 ∷ []) at.1)) (lawful_door asked ran goes honest)) in
-      let follows = (each_after_snoc may_follow [] at.0 e.0 now.legal).1 in
-      let answered : IsTrue (is_answered e.0.act) = (and_parts (is_answered e.0.act) _ follows).0 in
-      shown_reads at.0 e.0 now (comes_at_open at.0 e.0 follows e.3) pair (subst (λ act. In pair (pairs_in act)) e.2 shown) (named (subst (λ act. IsTrue (is_answered act)) (sym e.2) answered))
+      let now : Lawful (e.before ++ e.entry ∷ []) = lawful_begins (e.before ++ e.entry ∷ []) e.after (subst Lawful (e.parts ∙ sym (append_assoc e.before (e.entry ∷ []) e.after)) (lawful_door asked ran goes honest)) in
+      let follows = (each_after_snoc may_follow [] e.before e.entry now.legal).1 in
+      let answered : IsTrue (is_answered e.entry.act) = (and_parts (is_answered e.entry.act) _ follows).0 in
+      shown_reads e.before e.entry now (comes_at_open e.before e.entry follows e.its) pair (subst (λ act. In pair (pairs_in act)) e.does shown) (named (subst (λ act. IsTrue (is_answered act)) (sym e.does) answered))
 
   -- a page of the records or of the markers shows no damage
-  page_reads : (name : List ℕ) → OnPage (line_of line) (turns (line_of line) ran.trace) name → ⊥
+  pub page_reads : (name : List ℕ) → OnPage (line_of line) (turns (line_of line) ran.trace) name → ⊥
   page_reads name on =
       let pair = in_map (λ (p : Pair). p.name) name (filter (is_damage None) (pairs_in on.act)) on.damage in
       let shown = in_filter (is_damage None) pair.0 (pairs_in on.act) pair.1 in

@@ -1,0 +1,5 @@
+pub mod Entries
+pub mod Verdicts
+pub mod Rounds
+pub mod Faults
+pub mod Fences

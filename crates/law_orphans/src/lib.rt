@@ -1,0 +1,8 @@
+//! What the rule on orphan versions deletes, over a store that keeps what it acknowledged.
+//!
+//! It has no code.
+#![tactic(auto)]
+
+mod laws;
+
+pub use laws::orphans_are_deleted;
