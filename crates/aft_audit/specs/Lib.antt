@@ -1,2 +1,5 @@
 pub mod Pairs
 pub mod Newest
+pub mod Audit
+pub mod Scans
+pub mod Versions

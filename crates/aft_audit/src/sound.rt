@@ -1,10 +1,10 @@
 //! The first pair that offends.
 
-ghost use Rattle.std.specs.Prelude.{◌≡◌, ◌&&◌, IfOk, None, Some, filter, map, not};
+ghost use Rattle.std.specs.Prelude.{◌≡◌, ◌&&◌, IfOk, None, Some, filter, is_none, map, not};
 ghost use Rattle.std.specs.List.{flat_map, fold, list_any};
 ghost use Rattle.aft_records.specs.Commits.{has_uuid, same_commit};
 ghost use Rattle.aft_keeper.specs.Contents.{Ascends};
-ghost use Rattle.aft_model.specs.Sound.{first_offender, lesser, marker_offends, missing_versions, pair_offends, recorded};
+ghost use Rattle.aft_model.specs.Sound.{first_offender, is_sound, lesser, marker_offends, missing_versions, pair_offends, recorded};
 ghost use Rattle.aft_audit.specs.Newest.{IsNewestOf};
 
 use crate::newest::{Newest, newest_of, supersedes};
@@ -22,7 +22,8 @@ use uuid::Uuid;
 /// has no reading under its name.
 pub fn offender(alloc: Global, pairs: &List<Pair>) -> Result<Option<Text>, Memory>
     requires { Ascends pairs.now }
-    ensures { IfOk result (λ name. name ≡ first_offender pairs.now) }
+    ensures first { IfOk result (λ name. name ≡ first_offender pairs.now) }
+    ensures sound { IfOk result (λ name. is_none name ≡ is_sound pairs.now) }
 {
     let pairs = pairs.as_slice();
     let newest = newest_of(alloc, pairs)?;

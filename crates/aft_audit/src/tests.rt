@@ -1,6 +1,7 @@
 //! What no clause says: that the calls succeed where memory is ample, on pairs that are damaged in each way.
 
-use crate::offender;
+use crate::{AuditFault, audit, offender};
+use aft_door::Door;
 use aft_id::{Bytes, List, TxnId};
 use aft_keeper::{Keeper, MemKeeper};
 use aft_records::{Commit, Key, Keys, Marker, Name, Version};
@@ -121,4 +122,28 @@ fn markers(rt: HostRuntime) {
     put_record(&rt, alloc, &mut store, &newer);
     put_version(&rt, alloc, &mut store, &newer);
     expect(&rt, alloc, &mut store, "");
+}
+
+/// What an audit of a store answers is this name, or that all is sound where it is empty.
+fn expect_audit(rt: &impl Abort, alloc: Global, store: MemKeeper, want: &str) {
+    let mut door = Door::new(alloc, store);
+    match audit(alloc, &mut door) {
+        Ok(_) => assert!(rt; want.as_bytes().is_empty()),
+        Err(AuditFault::Damaged { name }) => assert!(rt; *name.as_str() == *want),
+        Err(_) => assert!(rt; false),
+    }
+}
+
+#[test]
+fn audits(rt: HostRuntime) {
+    let alloc = rt.alloc();
+    let id = id_of(1000, 1);
+    let mut store = empty(alloc);
+    put_record(&rt, alloc, &mut store, &id);
+    let absent = "v/78/00000000000003e8-00000000000000000000000000000001";
+    expect_audit(&rt, alloc, store, absent);
+    let mut store = empty(alloc);
+    put_record(&rt, alloc, &mut store, &id);
+    put_version(&rt, alloc, &mut store, &id);
+    expect_audit(&rt, alloc, store, "");
 }
