@@ -1,0 +1,10 @@
+pub mod Asking
+pub mod Caused
+pub mod Counted
+pub mod DoorSteps
+pub mod Leads
+pub mod NodeSteps
+pub mod Once
+pub mod OwnTurns
+pub mod Shown
+pub mod Stands

@@ -1,0 +1,5 @@
+pub mod Calls
+pub mod Made
+pub mod Seen
+pub mod View
+pub mod Way

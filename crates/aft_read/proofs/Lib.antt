@@ -1,0 +1,8 @@
+mod Asking
+mod Ended
+mod Ending
+mod Led
+mod Once
+mod Picked
+mod Reading
+mod Stands

@@ -1,0 +1,4 @@
+pub mod Refusals
+pub mod Stands
+pub mod Steps
+pub mod Trail
