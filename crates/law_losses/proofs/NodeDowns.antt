@@ -1,8 +1,8 @@
 -- A line that answers that a node is down comes behind a crash of the node.
-use Rattle.std.proofs.Common.{◌≡◌, ℕ, zero, suc, ◌+◌, ◌<◌, ◌≤◌, Bool, true, false, ◌&&◌, ◌||◌, not, List, [], ◌∷◌, ◌++◌, length, refl, sym, ap, subst, ◌∙◌, ◌⊎◌, inl, inr, eqb, ltb, arith}
-use Rattle.std.specs.Prelude.{IsFalse, IsTrue, None, Option, Some, drop, filter, is_some, nat_le, nat_lt, take}
-use Rattle.std.specs.List.{flat_map, last_or, list_all, list_any}
-use Rattle.std.proofs.lemmas.Bool.{and_parts, eq-eqb, eqb-true, false≢true, leb-true, ltb-true, or_cases, true≢false}
+use Rattle.std.proofs.Common.{◌≡◌, ℕ, zero, suc, ◌+◌, ◌<◌, ◌≤◌, Bool, true, ◌&&◌, ◌||◌, not, List, [], ◌∷◌, ◌++◌, length, refl, sym, ap, subst, ◌∙◌, ◌⊎◌, inl, inr, eqb, ltb, arith}
+use Rattle.std.specs.Prelude.{IsFalse, IsTrue, None, Option, Some, drop, filter, is_some, take}
+use Rattle.std.specs.List.{flat_map, last_or, list_all}
+use Rattle.std.proofs.lemmas.Bool.{and_parts, eq-eqb, eqb-true, false≢true, leb-true, ltb-true, or_cases}
 use Rattle.std.proofs.lemmas.List.Sums.{fold-append}
 use Rattle.aft_model.specs.declared.caller.Attempt.{Attempt}
 use Rattle.aft_model.specs.declared.caller.By.{By}
@@ -23,11 +23,10 @@ use Rattle.aft_model.specs.History.{first_of}
 use Rattle.aft_model.specs.LegalNode.{LegalNode, front}
 use Rattle.aft_model.specs.Membership.{Incarnation, fenced, fenced_in, incarnation, same_incarnation}
 use Rattle.aft_model.specs.NodeSights.{is_fenced}
-use Rattle.aft_model.specs.NodeState.{IsBooting, IsDown, IsServing, NodeState, Service, boots, newest, node_state, part, part_in, serves, service_in}
+use Rattle.aft_model.specs.NodeState.{IsBooting, IsDown, IsServing, NodeState, boots, newest, node_state, part, part_in, serves, service_in}
 use Rattle.aft_model.proofs.Histories.{In, all_at, any_found, in_append, in_back, in_flat_map, in_front}
 use Rattle.aft_model.proofs.Lists.{in_filter}
 use Rattle.aft_model.proofs.OneCommit.{same_who}
-use Rattle.aft_model.proofs.Services.{serving}
 use Rattle.aft_lines.specs.Asked.{Asked, Ran}
 use Rattle.aft_lines.specs.BackupCourse.{copier}
 use Rattle.aft_lines.specs.Causes.{cause}
@@ -37,14 +36,14 @@ use Rattle.aft_lines.specs.CourseWords.{Ends}
 use Rattle.aft_lines.specs.FinishedText.{answers_of, line_of}
 use Rattle.aft_lines.specs.LegalTrace.{LegalTrace, named_node, stands_at}
 use Rattle.aft_lines.specs.LineCourse.{answers_last, follows_course, keeps_course, start_course}
-use Rattle.aft_lines.specs.LineView.{LineView, NodeTurn, behind_turn, ends_of, first_node_turn, is_silent_turn, last_front, newest_here, node_turn_in, node_turns, went_on}
+use Rattle.aft_lines.specs.LineView.{LineView, NodeTurn, behind_turn, ends_of, is_silent_turn, last_front, newest_here, node_turn_in, node_turns, went_on}
 use Rattle.aft_lines.specs.Lines.{attempt_by, attempt_of, begins, begun_at, earlier_lines, hold_after, last_begin, lines, node_numbers}
 use Rattle.aft_lines.specs.Turns.{AtDoor, AtNode, AtOffice, Turn, answer_in, door_turns, end_front, front_in, moment, nodes_turns, office_turns, turns}
 use Rattle.aft_lines.specs.Views.{view_of}
 use Rattle.law_attempts.proofs.Lives.{lives}
 use Rattle.law_attempts.proofs.Newest.{acts_of_own}
 use Rattle.law_attempts.proofs.Standing.{first_within, same_itself}
-use Rattle.law_attempts.specs.Acts.{acts_on, first_attempts}
+use Rattle.law_attempts.specs.Acts.{acts_on}
 use Rattle.law_runs.proofs.Come.{fenced_later}
 use Rattle.law_runs.proofs.LegalRuns.{legal_goes}
 use Rattle.law_runs.proofs.Members.{in_turns}

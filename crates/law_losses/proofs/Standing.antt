@@ -7,8 +7,6 @@ use Rattle.aft_model.specs.declared.caller.By.{By}
 use Rattle.aft_model.specs.declared.node.NodeAct.{NodeAct}
 use Rattle.aft_model.specs.declared.node.NodeAct.TheVariants.{Boot}
 use Rattle.aft_model.specs.declared.node.NodeEntry.{NodeEntry}
-use Rattle.aft_model.specs.declared.office.OfficeEntry.{OfficeEntry}
-use Rattle.aft_model.specs.declared.door.DoorEntry.{DoorEntry}
 use Rattle.aft_model.specs.declared.script.Line.{Line}
 use Rattle.aft_model.specs.History.{each_after}
 use Rattle.aft_model.specs.LegalNode.{LegalNode, is_legal_node, may_follow_at}
@@ -21,11 +19,11 @@ use Rattle.aft_model.proofs.Lists.{map_in}
 use Rattle.aft_model.proofs.Services.{node_state-snoc}
 use Rattle.aft_lines.specs.Asked.{Asked, Ran, are_settings}
 use Rattle.aft_lines.specs.FinishedText.{line_of}
-use Rattle.aft_lines.specs.LegalTrace.{LegalTrace, begin_behind_opening, clients_in_order, is_after_own, is_of_lines, makers, opens_first}
+use Rattle.aft_lines.specs.LegalTrace.{LegalTrace, begin_behind_opening, is_after_own, is_of_lines, makers, opens_first}
 use Rattle.aft_lines.specs.Lines.{lines, node_numbers}
 use Rattle.aft_lines.specs.Makes.{makes}
 use Rattle.aft_lines.specs.OpeningCourse.{is_boot, opening_course}
-use Rattle.aft_lines.specs.Turns.{AtDoor, AtNode, AtOffice, Turn, door_turns, node_turns, nodes_turns, office_turns, turns}
+use Rattle.aft_lines.specs.Turns.{AtNode, Turn, door_turns, node_turns, nodes_turns, office_turns, turns}
 use Rattle.aft_lines.specs.Views.{view_of}
 use Rattle.law_steps.specs.Histories.{history_in}
 use Rattle.law_claims.proofs.Scenes.{same_by}
