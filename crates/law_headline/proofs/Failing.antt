@@ -1,6 +1,6 @@
 -- Where no call at the door failed, no line tells that something did.
-use Rattle.std.proofs.Common.{◌≡◌, ℕ, Bool, not, refl, sym, ap, subst, ◌∙◌, eqb}
-use Rattle.std.specs.Prelude.{IsFalse, IsTrue, Option, Some}
+use Rattle.std.proofs.Common.{◌≡◌, ℕ, not, refl, ap, subst, eqb}
+use Rattle.std.specs.Prelude.{IsFalse, IsTrue, Some}
 use Rattle.std.specs.List.{list_any}
 use Rattle.std.proofs.lemmas.Bool.{false_from_ne_true, false≢true}
 use Rattle.aft_model.specs.declared.reply.Judged.{Judged}
