@@ -5,4 +5,4 @@
 
 mod laws;
 
-pub use laws::promise_kept;
+pub use laws::{nothing_fails_by_itself, promise_kept};

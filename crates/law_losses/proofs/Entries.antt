@@ -87,7 +87,7 @@ module _ (asked : Asked) (ran : Ran) (legal : LegalTrace asked ran) (honest : Ho
   line_loses_none line listed first (replies.Damaged name) among = by_get line listed (told_by_gets asked ran line name legal honest listed first among) (replies.Damaged name) among
   line_loses_none line listed first reply among = refl
 
-  of_line : (by : By) → IsTrue (list_any (λ (l : Line). same_line (line_of l) by) (lines asked)) → (answer : Option Reply) → ((reply : Reply) → answer ≡ Some reply → In reply (answers_of by ran)) → IsTrue (not (tells_loss answer))
+  pub of_line : (by : By) → IsTrue (list_any (λ (l : Line). same_line (line_of l) by) (lines asked)) → (answer : Option Reply) → ((reply : Reply) → answer ≡ Some reply → In reply (answers_of by ran)) → IsTrue (not (tells_loss answer))
   of_line by some None among = refl
   of_line by some (Some reply) among = elim (named_line by (lines asked)) [
     | inl named ↦ line_loses_none named.0 named.1 (ap (λ (b : By). line_among b (lines asked)) named.2 ∙ named.3) reply (subst (λ (b : By). In reply (answers_of b ran)) (sym named.2) (among reply refl))

@@ -32,7 +32,7 @@ use Rattle.law_runs.proofs.Reading.{reads_alone}
 use Rattle.law_held.specs.Copies.{is_crash}
 
 -- an entry at the door is a turn of its line
-turn_of_entry : (e : DoorEntry) (from : ℕ) (rest : List DoorEntry) → In e rest → (place : ℕ) × In (AtDoor place e.act) (door_turns e.by from rest)
+pub turn_of_entry : (e : DoorEntry) (from : ℕ) (rest : List DoorEntry) → In e rest → (place : ℕ) × In (AtDoor place e.act) (door_turns e.by from rest)
 turn_of_entry e from [] among = absurd among
 turn_of_entry e from (x ∷ rest) (inl is) = (
   from,

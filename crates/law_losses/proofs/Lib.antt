@@ -3,3 +3,7 @@ pub mod Verdicts
 pub mod Rounds
 pub mod Faults
 pub mod Fences
+pub mod Downs
+pub mod Openings
+pub mod Standing
+pub mod NodeDowns

@@ -1,10 +1,10 @@
 //! Laws of losses, as calls that do nothing and promise them.
 
-ghost use Rattle.std.specs.Prelude.{◌≡◌, ◌==◌, ℕ, IsFalse, IsTrue, List};
+ghost use Rattle.std.specs.Prelude.{◌≡◌, ◌==◌, ◌&&◌, ℕ, IsFalse, IsTrue, List};
 ghost use Rattle.aft_model.specs.declared.door.DoorAct.TheVariants.{Fence};
 ghost use Rattle.aft_model.specs.declared.door.DoorEntry.{DoorEntry};
 ghost use Rattle.aft_model.specs.declared.reply.Judged.{Judged};
-ghost use Rattle.aft_model.specs.declared.reply.Reply.TheVariants.{Collected, InDoubt, Orphans, StoreFault};
+ghost use Rattle.aft_model.specs.declared.reply.Reply.TheVariants.{Collected, InDoubt, NodeDown, Orphans, StoreFault};
 ghost use Rattle.aft_model.specs.declared.reply.Verdict.TheVariants.{Fault};
 ghost use Rattle.aft_model.specs.declared.script.Line.{Line};
 ghost use Rattle.aft_model.specs.Honest.{Honest};
@@ -12,12 +12,15 @@ ghost use Rattle.aft_model.specs.Opening.{has_failed};
 ghost use Rattle.aft_model.proofs.Histories.{In};
 ghost use Rattle.aft_lines.specs.Asked.{Asked, Ran};
 ghost use Rattle.aft_lines.specs.BackupCourse.{copier};
+ghost use Rattle.aft_lines.specs.CausesAttempts.{speaks_of_attempt};
 ghost use Rattle.aft_lines.specs.FinishedText.{answers_of, line_of};
 ghost use Rattle.aft_lines.specs.Headline.{loses_nothing};
 ghost use Rattle.aft_lines.specs.LegalTrace.{LegalTrace};
 ghost use Rattle.aft_lines.specs.Lines.{lines};
 ghost use Rattle.aft_lines.specs.RunsSoFar.{RunsSoFar};
+ghost use Rattle.aft_lines.specs.Views.{view_of};
 ghost use Rattle.law_held.specs.Copies.{is_crash};
+ghost use Rattle.law_losses.specs.Crashed.{CrashedIn};
 ghost use Rattle.law_losses.specs.Gets.{GetsLoseNothing};
 
 /// In a legal trace of a store that keeps what it acknowledged, whose gets tell of no loss, no reply does: neither one of a line, nor
@@ -39,4 +42,10 @@ pub fn no_fault_without_a_fault()
 pub fn fences_are_crashes()
     ensures so_far { (asked : Asked) (ran : Ran) (entry : DoorEntry) (node inc : ℕ) → RunsSoFar asked ran → In entry ran.trace.door → entry.act ≡ Fence node inc → IsFalse (node == copier) → (crash : Line) × In crash (lines asked) × (line_of crash ≡ entry.by) × IsTrue (is_crash crash.order) }
     ensures legal { (asked : Asked) (ran : Ran) (entry : DoorEntry) (node inc : ℕ) → LegalTrace asked ran → In entry ran.trace.door → entry.act ≡ Fence node inc → IsFalse (node == copier) → (crash : Line) × In crash (lines asked) × (line_of crash ≡ entry.by) × IsTrue (is_crash crash.order) }
+{}
+
+/// In a legal trace a line answers that a node is down only after a crash line: a fence by a line that asks for the crash of that node
+/// stands among what the line had seen of the door's history. No line of client 0, which is the background, speaks of an attempt.
+pub fn nodes_go_down_by_crashes()
+    ensures { (asked : Asked) (ran : Ran) (line : Line) (node inc : ℕ) → LegalTrace asked ran → In line (lines asked) → IsFalse (speaks_of_attempt line.order && line.client == 0) → In (NodeDown node inc) (answers_of (line_of line) ran) → CrashedIn asked node (view_of asked ran line).seen }
 {}

@@ -5,4 +5,7 @@
 
 mod laws;
 
-pub use laws::{fences_are_crashes, no_fault_without_a_fault, nothing_is_lost_but_by_gets};
+pub use laws::{
+    fences_are_crashes, no_fault_without_a_fault, nodes_go_down_by_crashes,
+    nothing_is_lost_but_by_gets,
+};
