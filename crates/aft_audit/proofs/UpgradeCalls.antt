@@ -25,7 +25,7 @@ use Rattle.aft_audit.specs.Audit.{fault_of, opener}
 use Rattle.aft_audit.specs.Upgrading.{HasPassed, HasStopped, format_found}
 use Rattle.aft_audit.specs.Versions.{found_answer, with_get}
 use Rattle.aft_audit.specs.declared.fault.AuditFault.{AuditFault}
-use Rattle.aft_audit.specs.declared.fault.AuditFault.TheVariants.{Memory, Store}
+use Rattle.aft_audit.specs.declared.fault.AuditFault.TheVariants.{Memory}
 use Rattle.aft_audit.proofs.UpgradeEnds.{get_failed, get_untold, got_only, put_failed, unasked}
 use Rattle.aft_audit.proofs.Upgrades.{passed_on, stopped_on}
 

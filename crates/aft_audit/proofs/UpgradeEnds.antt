@@ -3,8 +3,8 @@ use Rattle.std.proofs.Common.{◌≡◌, ℕ, Bool, true, false, List, [], ◌�
 use Rattle.std.specs.Prelude.{IsFalse, IsTrue, None, Option, Some, if◌then◌else◌}
 use Rattle.std.specs.List.{list_any}
 use Rattle.aft_keeper.specs.declared.keeper.KeeperAnswer.{KeeperAnswer}
-use Rattle.aft_keeper.specs.declared.keeper.KeeperAnswer.TheVariants.{Done, Failed, Found}
-use Rattle.aft_keeper.specs.declared.keeper.KeeperCall.TheVariants.{Get, Put}
+use Rattle.aft_keeper.specs.declared.keeper.KeeperAnswer.TheVariants.{Done, Failed}
+use Rattle.aft_keeper.specs.declared.keeper.KeeperCall.TheVariants.{Get}
 use Rattle.aft_keeper.specs.declared.keeper.Pair.{Pair}
 use Rattle.aft_records.specs.declared.stored.Commit.{Commit}
 use Rattle.aft_records.specs.Commits.{is_among}

@@ -7,7 +7,7 @@ use Rattle.std.specs.Str.{bytes_eq}
 use Rattle.std.proofs.lemmas.Bool.{and_from, or_left, or_parts}
 use Rattle.std.proofs.lemmas.List.Elements.{filter-append}
 use Rattle.aft_keeper.specs.declared.keeper.KeeperAnswer.{KeeperAnswer}
-use Rattle.aft_keeper.specs.declared.keeper.KeeperAnswer.TheVariants.{Absent, Done, Failed, Found}
+use Rattle.aft_keeper.specs.declared.keeper.KeeperAnswer.TheVariants.{Done, Failed}
 use Rattle.aft_keeper.specs.declared.keeper.KeeperCall.TheVariants.{Get, Put}
 use Rattle.aft_keeper.specs.declared.keeper.Pair.{Pair}
 use Rattle.aft_records.specs.declared.stored.Commit.{Commit}
@@ -15,10 +15,9 @@ use Rattle.aft_records.specs.declared.stored.Record.{Record}
 use Rattle.aft_records.specs.Commits.{is_among}
 use Rattle.aft_records.specs.Reading.{record_of}
 use Rattle.aft_records.specs.Rows.{record_row}
-use Rattle.aft_records.specs.Stored.{IsCommit, IsRecord}
+use Rattle.aft_records.specs.Stored.{IsCommit}
 use Rattle.aft_records.proofs.CommitOrder.{same_id-refl}
 use Rattle.aft_records.proofs.Written.{record_written, timely_is}
-use Rattle.aft_model.specs.declared.door.DoorAct.TheVariants.{Call}
 use Rattle.aft_model.specs.declared.door.DoorEntry.{DoorEntry}
 use Rattle.aft_model.specs.Opening.{has_failed, is_failure, opening}
 use Rattle.aft_model.specs.Readings.{first_format_in, record_name, same_record, written_in}
@@ -29,10 +28,10 @@ use Rattle.aft_door.proofs.Puts.{read_own, upgraded_is}
 use Rattle.aft_lines.specs.CommitCourse.{is_written_as}
 use Rattle.aft_lines.specs.CourseWords.{finds_record, found_pair, is_over}
 use Rattle.aft_lines.specs.Turns.{AtDoor, Turn, door_turns}
-use Rattle.aft_lines.specs.UpgradeCourse.{behind_upgrade_get, is_of_record, puts_upgraded, upgraded, upgrades}
+use Rattle.aft_lines.specs.UpgradeCourse.{behind_upgrade_get, puts_upgraded, upgraded, upgrades}
 use Rattle.aft_audit.specs.Audit.{opener}
 use Rattle.aft_lines.specs.UpgradeTrace.{is_put}
-use Rattle.aft_audit.specs.Upgrading.{HasPassed, HasStopped, ShowsNone, StopsFor, format_found, puts_in}
+use Rattle.aft_audit.specs.Upgrading.{HasPassed, HasStopped, StopsFor, format_found, puts_in}
 use Rattle.aft_audit.specs.declared.fault.AuditFault.{AuditFault}
 use Rattle.aft_audit.specs.declared.fault.AuditFault.TheVariants.{Damaged, Memory, Store, TooMany}
 use Rattle.aft_audit.specs.Versions.{found_answer}

@@ -1,5 +1,5 @@
 -- What comes of an upgrade: the office gets each record, and puts those of the first format in the second.
-use Rattle.std.specs.Prelude.{Bool, Err, IsFalse, IsTrue, List, None, Ok, Option, Result, Some, [], filter, if◌then◌else◌, false, length, true, ℕ, ◌++◌, ◌∷◌, ◌≡◌}
+use Rattle.std.specs.Prelude.{Bool, Err, IsFalse, IsTrue, List, None, Ok, Option, Result, Some, [], filter, if◌then◌else◌, false, length, true, ℕ, ◌++◌, ◌≡◌}
 use Rattle.std.specs.List.{last_or, list_any}
 use Rattle.aft_keeper.specs.declared.keeper.KeeperAnswer.{KeeperAnswer}
 use Rattle.aft_keeper.specs.declared.keeper.KeeperCall.TheVariants.{Get}
