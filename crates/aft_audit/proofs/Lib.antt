@@ -5,3 +5,7 @@ pub mod Runs
 pub mod Gets
 pub mod Offending
 pub mod Opens
+pub mod Alone
+pub mod Upgrades
+pub mod UpgradeEnds
+pub mod UpgradeCalls

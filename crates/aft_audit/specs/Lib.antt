@@ -3,3 +3,4 @@ pub mod Newest
 pub mod Audit
 pub mod Scans
 pub mod Versions
+pub mod Upgrading

@@ -1,4 +1,4 @@
-//! The check of what a store holds: which of its pairs offends first.
+//! The audit of a store: which of its pairs offends first, the opening of the door, and the upgrade of old records.
 #![tactic(auto)]
 
 mod fault;
@@ -10,8 +10,10 @@ mod reading;
 mod sound;
 #[cfg(test)]
 mod tests;
+mod upgrading;
 mod versions;
 
 pub use fault::AuditFault;
 pub use opening::audit;
 pub use sound::offender;
+pub use upgrading::upgrade;

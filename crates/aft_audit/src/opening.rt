@@ -2,6 +2,7 @@
 
 ghost use Rattle.std.specs.Prelude.{◌≡◌, ◌++◌, ◌∷◌, [], IfErr, IfOk, IsErrOf, IsFalse, IsTrue, OnOk};
 ghost use Rattle.aft_keeper.specs.Contents.{Ascends};
+ghost use Rattle.aft_model.specs.DoorKnowledge.{is_untouched};
 ghost use Rattle.aft_model.specs.Opening.{opening};
 ghost use Rattle.aft_model.specs.Sound.{recorded};
 ghost use Rattle.aft_door.specs.Entries.{door_opened};
@@ -27,10 +28,12 @@ use std::alloc::Global;
 ///
 /// `Store` comes exactly where a call of the store failed, and `TooMany` exactly where a page shows the 20,001st name of a prefix:
 /// both at once. `Damaged` comes exactly where something offends, with the first name in byte order, once all was read. `Memory` may
-/// come at any time. After a refusal the door isn't open, and its history has what was read.
+/// come at any time. After a refusal the door isn't open, and its history has what was read. Else nobody is up yet, and nothing was
+/// deleted.
 pub fn audit<K: Keeper>(alloc: Global, door: &mut Door<K>) -> Result<List<Commit>, AuditFault>
     requires { door.old.history ≡ [] }
     ensures answer { Audits result door.new.history }
+    ensures untouched { OnOk result (IsTrue (is_untouched door.new.history)) }
     ensures store { IsSameStore door.old door.new }
     ensures cause { HasCause (IsErrOf result faults.Store) door.old.faults door.new.faults }
 {
@@ -41,6 +44,7 @@ pub fn audit<K: Keeper>(alloc: Global, door: &mut Door<K>) -> Result<List<Commit
     let names = names_of(alloc, &commits)?;
     Door::law_legal(door);
     get_each(door, &names, &mut pairs)?;
+    Door::law_legal(door);
     open(alloc, door, pairs)?;
     Ok(List::from_vec(commits))
 }

@@ -1,7 +1,7 @@
 //! What the bytes of a pair read to, under the pair's name.
 
 ghost use Rattle.std.specs.Prelude.{if◌then◌else◌, ◌≡◌, IfOk, IfSome, None, Ok, Result, Some};
-ghost use Rattle.aft_model.specs.Readings.{id_of_marker, markers_in, records_in, versions_in};
+ghost use Rattle.aft_model.specs.Readings.{id_of_marker, markers_in, records_in, versions_in, written_in};
 ghost use Rattle.std.specs.Str.{bytes_eq};
 ghost use Rattle.aft_records.specs.Names.{name_text};
 ghost use Rattle.aft_records.specs.Stored.{IsCommit};
@@ -10,7 +10,7 @@ ghost use Rattle.aft_records.specs.declared.fault.RecordFault as faults;
 ghost use Rattle.aft_audit.specs.Pairs.{Reads, as_list, pair_of};
 
 use aft_id::{Memory, TxnId};
-use aft_records::{Commit, Marker, Name, RecordFault, Version};
+use aft_records::{Commit, Marker, Name, Record, RecordFault, Version};
 use std::alloc::Global;
 use uuid::Uuid;
 
@@ -90,6 +90,19 @@ pub(crate) fn version_in(alloc: Global, name: &str, bytes: &[u8]) -> Result<Opti
             let key = version.key.clone()?;
             let id = version.id;
             if_spelled(alloc, name, Name::VersionOf { key, id }, version)
+        }
+    }
+}
+
+/// The record of the second format that bytes are, where they stand under its name.
+pub(crate) fn written_in(alloc: Global, name: &str, bytes: &[u8]) -> Result<Option<Record>, Memory>
+    ensures { IfOk result (λ found. as_list found ≡ written_in (pair_of name.now bytes.now)) }
+{
+    match readable(Record::decode(alloc, bytes))? {
+        None => Ok(None),
+        Some(whole) => {
+            let uuid = uuid_of(&whole.commit);
+            if_spelled(alloc, name, Name::CommitOf { uuid }, whole)
         }
     }
 }

@@ -1,10 +1,10 @@
 //! What no clause says: that the calls succeed where memory is ample, on pairs that are damaged in each way.
 
-use crate::{AuditFault, audit, offender};
+use crate::{AuditFault, audit, offender, upgrade};
 use aft_door::Door;
 use aft_id::{Bytes, List, TxnId};
 use aft_keeper::{Keeper, MemKeeper};
-use aft_records::{Commit, Key, Keys, Marker, Name, Version};
+use aft_records::{Commit, Key, Keys, Marker, Name, Origin, Record, Version};
 use std::alloc::Global;
 use std::process::Abort;
 use uuid::Uuid;
@@ -146,4 +146,36 @@ fn audits(rt: HostRuntime) {
     put_record(&rt, alloc, &mut store, &id);
     put_version(&rt, alloc, &mut store, &id);
     expect_audit(&rt, alloc, store, "");
+}
+
+/// Puts the record of a commit that wrote x, in the second format.
+fn put_second(rt: &impl Abort, alloc: Global, store: &mut MemKeeper, id: &TxnId) {
+    let reads = List::from_vec(Vec::new(alloc));
+    let origin = Origin {
+        node: 1,
+        inc: 1,
+        reads,
+    };
+    let commit = commit_of(rt, alloc, id);
+    let record = Record { commit, origin };
+    let bytes = record.encode(alloc).expect(rt, "memory");
+    put(rt, alloc, store, &record_of(id), bytes.as_slice());
+}
+
+#[test]
+fn upgrades(rt: HostRuntime) {
+    let alloc = rt.alloc();
+    let mut store = empty(alloc);
+    let first = id_of(1000, 1);
+    put_record(&rt, alloc, &mut store, &first);
+    put_version(&rt, alloc, &mut store, &first);
+    let second = id_of(1001, 2);
+    put_second(&rt, alloc, &mut store, &second);
+    put_version(&rt, alloc, &mut store, &second);
+    let mut door = Door::new(alloc, store);
+    let commits = audit(alloc, &mut door).expect(&rt, "sound");
+    let puts = upgrade(alloc, &mut door, &commits).expect(&rt, "done");
+    assert!(rt; puts == 1);
+    let puts = upgrade(alloc, &mut door, &commits).expect(&rt, "done");
+    assert!(rt; puts == 0);
 }

@@ -1,14 +1,16 @@
 use Rattle.std.proofs.Common.{[], List, ◌≡◌, subst, sym, ap, ◌∙◌}
-use Rattle.std.specs.Prelude.{None}
+use Rattle.std.specs.Prelude.{IsTrue, None}
 use Rattle.std.specs.List.{flat_map, list_any}
 use Rattle.std.specs.Str.{bytes_eq}
 use Rattle.aft_keeper.specs.declared.keeper.Pair.{Pair}
 use Rattle.aft_records.specs.declared.stored.Commit.{Commit}
 use Rattle.aft_model.specs.declared.door.DoorEntry.{DoorEntry}
+use Rattle.aft_model.specs.DoorKnowledge.{is_untouched}
 use Rattle.aft_model.specs.ScanRun.{ScanPage, commits_on}
 use Rattle.aft_model.specs.Sound.{recorded, records_prefix}
 use Rattle.aft_audit.specs.Scans.{IsScanning}
 use Rattle.aft_audit.specs.Versions.{names_of}
+use Rattle.aft_audit.proofs.Alone.{opened_untouched}
 use Rattle.aft_audit.proofs.Gets.{has_all}
 use Rattle.aft_audit.proofs.Opens.{all_recorded, begins_gets, records_stay, stays_few}
 use Rattle.aft_audit.proofs.opening.audit.Goals as goal
@@ -47,3 +49,6 @@ returns-clause-answer g c =
           ∙ (all_recorded c.scan.new.pairs.items c.scan-2.new.pairs.items c.scan.new.door.history c.scan-2.new.door.history first c.in_ok-scan-2.ensures.ok c.law_legal.ensures.legal
           ∙ ap (λ (pages : List ScanPage). commits_on pages) (sym c.in_ok-get_each.ensures.ok.records))));
     }
+
+pub returns-clause-untouched : goal.returns-clause-untouched
+returns-clause-untouched g c = subst (λ (h : List DoorEntry). IsTrue (is_untouched h)) (sym c.in_ok-open.ensures.ok) (opened_untouched c.get_each.new.door.history c.law_legal-2.ensures.legal c.in_ok-get_each.ensures.ok.shows.reading.closed)
