@@ -3,7 +3,7 @@ use Rattle.std.proofs.Common.{◌≡◌, ℕ, suc, Bool, true, false, ◌&&◌, 
 use Rattle.std.specs.Prelude.{Err, IsFalse, IsTrue, None, Ok, Option, Result, Some, if◌then◌else◌, is_some, map}
 use Rattle.std.specs.List.{flat_map, list_any}
 use Rattle.std.specs.Str.{bytes_eq}
-use Rattle.std.proofs.lemmas.Bool.{and_from, and_parts, false≢true, not-true, or_cases, or_left, or_right, true≢false}
+use Rattle.std.proofs.lemmas.Bool.{and_from, and_parts, false≢true, or_cases, or_left, or_right, true≢false}
 use Rattle.std.proofs.lemmas.List.{drop-append-le}
 use Rattle.aft_id.specs.declared.txn_id.TxnId.{TxnId}
 use Rattle.aft_keeper.specs.declared.keeper.KeeperAnswer.{KeeperAnswer}
@@ -24,18 +24,18 @@ use Rattle.aft_model.specs.declared.door.DoorAct.{DoorAct}
 use Rattle.aft_model.specs.declared.door.DoorAct.TheVariants as doors
 use Rattle.aft_model.specs.declared.door.DoorEntry.{DoorEntry}
 use Rattle.aft_model.specs.declared.script.Command.TheVariants as commands
-use Rattle.aft_model.specs.DoorKnowledge.{finds, finds_absent, finds_other, ids_in, is_of_other, knows_orphan}
+use Rattle.aft_model.specs.DoorKnowledge.{finds_other, ids_in, is_of_other, knows_orphan}
 use Rattle.aft_model.specs.History.{first_of, followed}
 use Rattle.aft_model.specs.LegalDoor.{is_answered}
 use Rattle.aft_model.specs.Membership.{incarnation, same_incarnation, the_office}
 use Rattle.aft_model.specs.Readings.{has_reading, id_of_marker, marker_name, markers_in, read_under, record_name, records_in, version_name, versions_in}
 use Rattle.aft_model.proofs.Growth.{any_grows, orphan_grows}
-use Rattle.aft_model.proofs.Histories.{In, any_found, any_from, in_back, in_flat_map}
+use Rattle.aft_model.proofs.Histories.{In, any_from, in_back, in_flat_map}
 use Rattle.aft_model.proofs.Sights.{no_version, same_bytes}
-use Rattle.aft_lines.specs.Advance.{Scan, GoesOn, HasEnded, advance, advance_orphans, behind_desk_look, behind_orphan_page, deleted_at_desk, desk_behind, freed_at_desk, held_for, in_round, looked_at_desk, moved_at_desk, paged_by, scan_of, scanned_by, stands_if, told_at_desk, told_by_office}
-use Rattle.aft_lines.specs.CourseWords.{Ends, ends_at_office, found_pair}
-use Rattle.aft_lines.specs.OrphanCourse.{VersionAt, found_by, found_on, tells_round, versions_prefix}
-use Rattle.aft_lines.specs.Progress.{AtDesk, HasLeft, Holding, Holds, InRound, IsOver, LookedOnce, LookedTwice, MustFree, MustTell, NotBegun, OrphanScan, Progress, Scanning, Standing}
+use Rattle.aft_lines.specs.Advance.{Scan, GoesOn, HasEnded, advance, advance_orphans, behind_desk_look, behind_orphan_page, deleted_at_desk, desk_behind, freed_at_desk, held_for, in_round, looked_at_desk, moved_at_desk, paged_by, scan_of, scanned_by, stands_if, told_at_desk}
+use Rattle.aft_lines.specs.CourseWords.{Ends, found_pair}
+use Rattle.aft_lines.specs.OrphanCourse.{VersionAt, found_by, found_on, versions_prefix}
+use Rattle.aft_lines.specs.Progress.{AtDesk, HasLeft, Holding, Holds, InRound, IsOver, LookedOnce, LookedTwice, MustFree, MustTell, NotBegun, OrphanScan, Progress, Standing}
 use Rattle.aft_lines.specs.ScanCourse.{versions_limit}
 use Rattle.aft_lines.specs.Turns.{AtDoor, Turn}
 use Rattle.law_claims.proofs.Parting.{either_way}
@@ -225,9 +225,11 @@ module _ (door : List DoorEntry) (by : By) where
 
     -- the two looks
     no_record : (act : DoorAct) → IsTrue (finds_other held.one.id (record_name held.one.id.uuid) act) → KnowsSo (behind act) (Some desk) (LookedOnce held)
-    no_record act finds_it =
-        (is_still act, subst (λ (l : List DoorEntry). IsTrue (list_any (λ (e : DoorEntry). finds_other held.one.id (record_name held.one.id.uuid) e.act) l)) (sym (dropped desk.place act is.0))
-        (any_from (λ (e : DoorEntry). finds_other held.one.id (record_name held.one.id.uuid) e.act) (record { by = by; act = act }) (drop (suc desk.place) door ++ record { by = by; act = act } ∷ []) (in_back (record { by = by; act = act }) (drop (suc desk.place) door) (record { by = by; act = act } ∷ []) (inl refl)) finds_it))
+    no_record act finds_it = (
+      is_still act,
+      subst (λ (l : List DoorEntry). IsTrue (list_any (λ (e : DoorEntry). finds_other held.one.id (record_name held.one.id.uuid) e.act) l)) (sym (dropped desk.place act is.0))
+          (any_from (λ (e : DoorEntry). finds_other held.one.id (record_name held.one.id.uuid) e.act) (record { by = by; act = act }) (drop (suc desk.place) door ++ record { by = by; act = act } ∷ []) (in_back (record { by = by; act = act }) (drop (suc desk.place) door) (record { by = by; act = act } ∷ []) (inl refl)) finds_it),
+    )
 
     no_marker : IsTrue (found_no_record held.one.id desk.place door) → (act : DoorAct) → IsTrue (finds_other held.one.id (marker_name held.one.id.uuid) act) → KnowsSo (behind act) (Some desk) (LookedTwice held)
     no_marker found act finds_it =

@@ -1,7 +1,7 @@
 -- In a run each delete by a round of orphans is by the rule on orphan versions.
-use Rattle.std.proofs.Common.{◌≡◌, ℕ, suc, Bool, true, false, ◌&&◌, ◌||◌, not, List, [], ◌∷◌, ◌++◌, length, refl, sym, ap, subst, ◌∙◌, inl, inr, append-nil, append_assoc}
-use Rattle.std.specs.Prelude.{IsFalse, IsTrue, None, Option, Some, if◌then◌else◌}
-use Rattle.std.specs.List.{flat_map, list_all, list_any}
+use Rattle.std.proofs.Common.{◌≡◌, ℕ, Bool, true, false, ◌&&◌, ◌||◌, not, List, [], ◌∷◌, ◌++◌, length, refl, sym, ap, subst, ◌∙◌, inl, inr, append-nil, append_assoc}
+use Rattle.std.specs.Prelude.{IsTrue, None, Option, Some, if◌then◌else◌}
+use Rattle.std.specs.List.{flat_map, list_any}
 use Rattle.std.specs.Str.{bytes_eq}
 use Rattle.std.proofs.lemmas.Bool.{and_from, and_parts, cases_Bool, false≢true, true≢false}
 use Rattle.std.proofs.lemmas.List.Concat.{flat_map-append}
@@ -14,7 +14,6 @@ use Rattle.aft_model.specs.declared.caller.By.{By}
 use Rattle.aft_model.specs.declared.door.DoorAct.{DoorAct}
 use Rattle.aft_model.specs.declared.door.DoorAct.TheVariants as doors
 use Rattle.aft_model.specs.declared.door.DoorEntry.{DoorEntry}
-use Rattle.aft_model.specs.declared.node.NodeEntry.{NodeEntry}
 use Rattle.aft_model.specs.declared.script.Command.{Command}
 use Rattle.aft_model.specs.declared.script.Command.TheVariants as commands
 use Rattle.aft_model.specs.declared.script.Line.{Line}
@@ -28,7 +27,7 @@ use Rattle.aft_model.specs.Readings.{version_name}
 use Rattle.aft_model.specs.ScanRun.{same_line}
 use Rattle.aft_model.proofs.Histories.{In, all_at, any_found, each_after_snoc, each_after_split, in_back, in_flat_map}
 use Rattle.aft_model.proofs.Sights.{same_bytes}
-use Rattle.aft_lines.specs.Advance.{advance, advance_orphans, in_round, leads_to, moved_at_desk, desk_behind, stands_if, told_at_desk}
+use Rattle.aft_lines.specs.Advance.{advance, advance_orphans, in_round, leads_to, moved_at_desk, told_at_desk}
 use Rattle.aft_lines.specs.Asked.{Asked, Ran}
 use Rattle.aft_lines.specs.CourseWords.{Ends}
 use Rattle.aft_lines.specs.FinishedText.{line_of}
