@@ -1,1 +1,3 @@
 pub mod Deleted
+pub mod Looked
+pub mod Rounds

@@ -5,4 +5,4 @@
 
 mod laws;
 
-pub use laws::orphans_are_deleted;
+pub use laws::{orphans_are_deleted, rounds_delete_orphans};
