@@ -1,0 +1,4 @@
+pub mod Asks
+pub mod Calls
+pub mod Made
+pub mod View
