@@ -1,0 +1,28 @@
+//! Laws of accounts, as calls that do nothing and promise them.
+
+ghost use Rattle.std.specs.Prelude.{◌≡◌};
+ghost use Rattle.aft_model.proofs.Histories.{In};
+ghost use Rattle.aft_model.specs.declared.script.Line.{Line};
+ghost use Rattle.aft_lines.specs.Asked.{Asked, Ran};
+ghost use Rattle.aft_lines.specs.FinishedText.{line_of};
+ghost use Rattle.aft_lines.specs.LegalTrace.{LegalTrace};
+ghost use Rattle.aft_lines.specs.Lines.{lines};
+ghost use Rattle.aft_lines.specs.RunsSoFar.{RunsSoFar};
+ghost use Rattle.aft_lines.specs.Views.{view_of};
+ghost use Rattle.law_accounts.specs.Account.{Account, IsDone, MayGoOn, NoneCollects, Stand, StandsBehind, Waits};
+ghost use Rattle.law_accounts.specs.Adding.{Added, ComesAsOrdered, Follows, maker_of, with_added};
+
+/// A run that has an account is a run so far.
+pub fn accounts_are_runs()
+    ensures { (asked : Asked) (ran : Ran) (stand : Line → Stand) → Account asked ran stand → RunsSoFar asked ran }
+{}
+
+/// With one entry more, of a line that may go on, which keeps the law of its history, a run has an account again.
+pub fn accounts_go_on()
+    ensures { (asked : Asked) (ran : Ran) (stand later : Line → Stand) (line : Line) (added : Added) → Account asked ran stand → MayGoOn asked stand line → maker_of added ≡ line_of line → Follows asked ran added → ComesAsOrdered asked ran added → NoneCollects asked stand added → StandsBehind asked stand later line (view_of asked (with_added added ran) line) → Account asked (with_added added ran) later }
+{}
+
+/// A run of which each line is over is legal.
+pub fn accounts_end()
+    ensures { (asked : Asked) (ran : Ran) (stand : Line → Stand) → Account asked ran stand → ((line : Line) → In line (lines asked) → stand line ≡ IsDone) → LegalTrace asked ran }
+{}
