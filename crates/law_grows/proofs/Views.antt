@@ -27,8 +27,10 @@ ends_same view more = record {
   seen = λ place low. sym (take-append-le place view.seen more low);
   shut_out = λ who front low. ap (λ (h : List DoorEntry). is_fenced who h) (sym (take-append-le front view.seen more low));
   left = refl;
-  kept = refl;
 }
+
+pub kept_same : (view : LineView) (more : List DoorEntry) → (ends_of view).is_kept ≡ (ends_of (with_more view more)).is_kept
+kept_same view more = refl
 
 -- ---- lists
 
