@@ -58,7 +58,7 @@ account_ends asked ran stand account done = record {
   nodes = account.nodes;
   office = account.office;
   boxes = account.boxes;
-  opening = account.opening;
+  opening = account.opens;
   courses = each_line asked ran ComesToEnd ended (λ view. keeps_course view.command (node_numbers view.settings) (ends_of view) view.turns) keeps;
   posts = each_line asked ran ComesToEnd ended (λ view. keeps_mail view.command (node_numbers view.settings) view.turns view.posts) (λ view it. it.posts);
   answers = answers;
@@ -86,4 +86,4 @@ account_ends asked ran stand account done = record {
     causes =
         all_from (λ (line : Line). list_all (cause (view_of asked ran line)) (answers_of (line_of line) ran)) (lines asked) (λ line among.
         let answer = one line among in
-        ap (list_all (cause (view_of asked ran line))) answer.alone ∙ and_from (cause (view_of asked ran line) answer.reply) true ((ended line among).caused answer.reply answer.is_last) refl)
+        ap (list_all (cause (view_of asked ran line))) answer.alone ∙ and_from (cause (view_of asked ran line) answer.reply) true ((ended line among).caused ran.trace.nodes answer.reply (λ collects. refl) answer.is_last) refl)

@@ -46,5 +46,5 @@ account_runs asked ran stand account = record {
     opens : IsTrue (opens_so asked ran)
     opens =
         let of_lines = list_all (list_all (is_of_lines (lines asked))) (makers ran) in
-        let parts = first_two of_lines (opening_course (node_numbers asked.settings) (turns opening ran.trace)) (list_all opens_first (makers ran)) (begin_behind_opening ran.trace) (list_all (list_all (λ entry. not (same_line opening entry.by))) ran.mail) account.opening in
+        let parts = first_two of_lines (opening_course (node_numbers asked.settings) (turns opening ran.trace)) (list_all opens_first (makers ran)) (begin_behind_opening ran.trace) (list_all (list_all (λ entry. not (same_line opening entry.by))) ran.mail) account.opens in
         and_from of_lines (opening_begins (node_numbers asked.settings) (turns opening ran.trace)) parts.0 (whole_opening (node_numbers asked.settings) (turns opening ran.trace) parts.1)

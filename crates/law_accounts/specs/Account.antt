@@ -1,7 +1,8 @@
 -- The account of a run on its way: what its histories are, and how each of its lines stands.
-use Rattle.std.specs.Prelude.{Bool, IsFalse, IsTrue, List, Option, Some, [], is_some, length, map, not, suc, ℕ, ◌<◌, ◌||◌, ◌≡◌, ◌⊎◌}
+use Rattle.std.specs.Prelude.{Bool, IsFalse, IsTrue, List, None, Option, Some, [], is_some, length, map, not, suc, ℕ, ◌<◌, ◌||◌, ◌≡◌, ◌⊎◌}
 use Rattle.std.specs.List.{fold, list_all}
 use Rattle.aft_model.proofs.Histories.{In}
+use Rattle.aft_model.specs.declared.node.NodeEntry.{NodeEntry}
 use Rattle.aft_model.specs.declared.reply.Reply.{Reply}
 use Rattle.aft_model.specs.declared.script.Line.{Line}
 use Rattle.aft_model.specs.Boxes.{is_legal_box}
@@ -50,12 +51,20 @@ pub record GoesAlong (view : LineView) : Type 0 where
 abbrev pub last_answer : List Turn → Option Reply
 last_answer line = fold (λ before turn. answer_in turn) None line
 
+-- a line as it ran beside nodes with these histories
+abbrev pub beside : List (List NodeEntry) → LineView → LineView
+beside nodes view = record view { nodes = nodes }
+
+-- histories of the nodes beside which a line has the cause of what it answered: any, but those of the run itself for a collection, which alone reads them
+abbrev pub MayBeside : LineView → List (List NodeEntry) → Type 0
+MayBeside view nodes = IsTrue (is_collect view.command) → nodes ≡ view.nodes
+
 -- a line that is over: its turns are its course, the last answers and no other, the boxes have what it is to do there, and what it answered has its cause
 pub record ComesToEnd (view : LineView) : Type 0 where
   pub leads : IsTrue (is_led_to_end (position_of view))
   pub answers : IsTrue (answers_last view.turns)
   pub posts : IsTrue (keeps_mail view.command (node_numbers view.settings) view.turns view.posts)
-  pub caused : (reply : Reply) → last_answer view.turns ≡ Some reply → Caused view reply
+  pub caused : (nodes : List (List NodeEntry)) (reply : Reply) → MayBeside view nodes → last_answer view.turns ≡ Some reply → Caused (beside nodes view) reply
 
 -- ---- all lines
 
@@ -63,7 +72,7 @@ pub record ComesToEnd (view : LineView) : Type 0 where
 abbrev pub has_made_nothing : Line → Ran → Bool
 has_made_nothing line ran = list_all (list_all (λ by. not (same_line (line_of line) by))) (makers ran)
 
--- the account of a run by how its lines stand: what has come of it is legal as far as it goes; who waits has made nothing; who has begun goes along; who is over has come to its end; and no client's line begins before its earlier ones are over
+-- the account of a run by how its lines stand: what has come of it is legal as far as it goes; its lines differ, and none is the opening's; who waits has made nothing; who has begun goes along; who is over has come to its end; and no client's line begins before its earlier ones are over
 pub record Account (asked : Asked) (ran : Ran) (stand : Line → Stand) : Type 0 where
   pub settings : IsTrue (fits_settings asked.settings ran)
   pub bytes : HasBytes ran.trace.door
@@ -72,13 +81,14 @@ pub record Account (asked : Asked) (ran : Ran) (stand : Line → Stand) : Type 0
   pub nodes : IsTrue (are_legal_nodes 1 asked.settings.cache ran.trace.door ran.trace.nodes)
   pub office : IsTrue (is_legal_office ran.trace.door ran.trace.office)
   pub boxes : IsTrue (list_all (is_legal_box asked.settings.mailbox) ran.mail)
-  pub opening : IsTrue (opens_as_asked asked ran)
+  pub opens : IsTrue (opens_as_asked asked ran)
   pub clock : IsTrue (read_clock asked ran)
   pub clients : IsTrue (clients_in_order ran)
   pub whole_lines : IsTrue (ran_as_ordered ran (whole_order asked))
   pub asks_last : IsTrue (asked_last asked ran)
   pub give_ups : IsTrue (give_ups_backed ran.trace)
   pub differ : LinesDiffer asked
+  pub strangers : (line : Line) → In line (lines asked) → IsFalse (same_line opening (line_of line))
   pub waiting : (line : Line) → In line (lines asked) → stand line ≡ Waits → IsTrue (has_made_nothing line ran)
   pub going : (line : Line) → In line (lines asked) → GoesAlong (view_of asked ran line)
   pub over : (line : Line) → In line (lines asked) → stand line ≡ IsDone → ComesToEnd (view_of asked ran line)

@@ -1,5 +1,5 @@
 -- One entry more in one of a run's histories: what it is, and what is known of it where it is made.
-use Rattle.std.specs.Prelude.{Bool, IsTrue, List, None, Option, Some, [], if◌then◌else◌, length, nat_le, suc, ℕ, ◌++◌, ◌==◌, ◌≤◌, ◌∷◌, Unit}
+use Rattle.std.specs.Prelude.{Bool, IsTrue, List, None, Option, Some, [], if◌then◌else◌, length, nat_le, suc, ℕ, ◌++◌, ◌==◌, ◌≤◌, ◌∷◌, true}
 use Rattle.std.specs.List.{list_all}
 use Rattle.aft_model.specs.declared.caller.By.{By}
 use Rattle.aft_model.specs.declared.door.DoorEntry.{DoorEntry}
@@ -36,7 +36,7 @@ maker_of (AddsAtBox box entry) = entry.by
 -- histories that are numbered from here on, with an entry more in that of a number
 abbrev pub with_entry_in : {A : Type 0} → ℕ → A → ℕ → List (List A) → List (List A)
 with_entry_in number entry first [] = []
-with_entry_in number entry first (history ∷ histories) = (if first == number then history ++ entry ∷ [] else history) ∷ with_entry_in number entry (suc first) histories
+with_entry_in number entry first (history ∷ histories) = if first == number then (history ++ entry ∷ []) ∷ histories else history ∷ with_entry_in number entry (suc first) histories
 
 -- the history of a number among them, or none
 abbrev pub numbered_in : {A : Type 0} → ℕ → ℕ → List (List A) → List A

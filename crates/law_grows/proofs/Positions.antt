@@ -42,6 +42,19 @@ use Rattle.law_rounds.proofs.Starts.{start_led}
 use Rattle.law_grows.specs.Reach.{SameKept, SameWithin, is_within}
 use Rattle.law_grows.proofs.Collecting.{collection_same}
 
+-- the front at which a line ends is within
+pub end_within : (reach : ℕ) (line : List Turn) → IsTrue (list_all (is_within reach) line) → end_front line ≤ reach
+end_within reach line so = last line so 0 (omega arith)
+  where
+    turn_within : (turn : Turn) → IsTrue (is_within reach turn) → front_in turn ≤ reach
+    turn_within (AtDoor place act) is = omega arith
+    turn_within (AtNode node before entry) is = leb-true entry.front reach is
+    turn_within (AtOffice before entry) is = leb-true entry.front reach is
+
+    last : (turns : List Turn) → IsTrue (list_all (is_within reach) turns) → (from : ℕ) → from ≤ reach → fold (λ before turn. front_in turn) from turns ≤ reach
+    last [] is from low = low
+    last (turn ∷ turns) is from low = (let parts = and_parts (is_within reach turn) (list_all (is_within reach) turns) is in last turns parts.1 (front_in turn) (turn_within turn parts.0))
+
 module _ (reach : ℕ) (left : ℕ → NodeState → Bool) (kept kept' : ℕ → Commit → List Turn → List Turn → Bool) (seen seen' : List DoorEntry) (shut shut' : Incarnation → ℕ → Bool)
     (same_seen : (place : ℕ) → place ≤ reach → take place seen ≡ take place seen') (same_shut : (who : Incarnation) (front : ℕ) → front ≤ reach → shut who front ≡ shut' who front) where
   abbrev one : Ends
@@ -164,19 +177,6 @@ module _ (reach : ℕ) (left : ℕ → NodeState → Bool) (kept kept' : ℕ →
 
   -- ---- the courses
 
-  -- the front at which a line ends is within
-  end_within : (line : List Turn) → IsTrue (within line) → end_front line ≤ reach
-  end_within line so = last line so 0 (omega arith)
-    where
-      turn_within : (turn : Turn) → IsTrue (is_within reach turn) → front_in turn ≤ reach
-      turn_within (AtDoor place act) is = omega arith
-      turn_within (AtNode node before entry) is = leb-true entry.front reach is
-      turn_within (AtOffice before entry) is = leb-true entry.front reach is
-
-      last : (turns : List Turn) → IsTrue (within turns) → (from : ℕ) → from ≤ reach → fold (λ before turn. front_in turn) from turns ≤ reach
-      last [] is from low = low
-      last (turn ∷ turns) is from low = (let parts = and_parts (is_within reach turn) (within turns) is in last turns parts.1 (front_in turn) (turn_within turn parts.0))
-
   -- the second ends with the other's test of what was kept
   abbrev between : Ends
   between = record { seen = seen'; is_shut_out = shut'; is_left = left; is_kept = kept }
@@ -192,7 +192,7 @@ module _ (reach : ℕ) (left : ℕ → NodeState → Bool) (kept kept' : ℕ →
       by_turns [] so = refl
       by_turns (AtDoor place act ∷ line) so = refl
       by_turns (AtNode node before entry ∷ line) so = refl
-      by_turns (AtOffice before entry ∷ line) so = by_act entry.act entry.answer line (collection_same left kept seen seen' shut shut' (end_front line) (λ who. same_shut who (end_front line) (end_within line (and_parts (nat_le entry.front reach) (within line) so).1)) nodes line refl)
+      by_turns (AtOffice before entry ∷ line) so = by_act entry.act entry.answer line (collection_same left kept seen seen' shut shut' (end_front line) (λ who. same_shut who (end_front line) (end_within reach line (and_parts (nat_le entry.front reach) (within line) so).1)) nodes line refl)
 
   pub course_same : (command : Command) (nodes : List ℕ) (line : List Turn) → (IsTrue (is_collect command) → kept ≡ kept') → shut the_office 0 ≡ false → IsTrue (within line) → follows_course command nodes one line ≡ follows_course command nodes two line
   course_same (commands.Begin uuid node) nodes line same up so = begin_led uuid node nodes one line ∙ ap is_led_to_end (lead_same (commands.Begin uuid node) nodes refl line so (Some NotBegun)) ∙ sym (begin_led uuid node nodes two line)
