@@ -219,8 +219,8 @@ module _ (ran : Ran) (order : List Line) where
       let two = and_parts (list_all (in_rank_order order) (makers ran) && list_all (list_all (λ (e : NodeEntry). seen ran.trace.door e.front e.by)) ran.trace.nodes) (list_all (λ (e : OfficeEntry). seen ran.trace.door e.front e.by) ran.trace.office) so in
       let one = and_parts (list_all (in_rank_order order) (makers ran)) (list_all (list_all (λ (e : NodeEntry). seen ran.trace.door e.front e.by)) ran.trace.nodes) two.0 in
       let ranked = makers_so (in_rank_order order) ran added one.0 (λ xs inside is.
-          each_more (λ (before : List By) (b : By). list_all (λ other. nat_le (rank order other) (rank order b)) before) xs (maker_of added) is
-          (all_at (list_all (λ other. nat_le (rank order other) (rank order (maker_of added)))) xs (makers ran) inside comes.0)) in
+      each_more (λ (before : List By) (b : By). list_all (λ other. nat_le (rank order other) (rank order b)) before) xs (maker_of added) is
+      (all_at (list_all (λ other. nat_le (rank order other) (rank order (maker_of added)))) xs (makers ran) inside comes.0)) in
       let rest = cases added comes one.1 two.1 in
       and_from _ _ (and_from _ _ ranked rest.0) rest.1
     where
