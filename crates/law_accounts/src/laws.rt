@@ -1,6 +1,7 @@
 //! Laws of accounts, as calls that do nothing and promise them.
 
-ghost use Rattle.std.specs.Prelude.{◌≡◌};
+ghost use Rattle.std.specs.Prelude.{◌≡◌, IsTrue, ℕ};
+ghost use Rattle.std.specs.List.{list_all};
 ghost use Rattle.aft_model.proofs.Histories.{In};
 ghost use Rattle.aft_model.specs.declared.script.Line.{Line};
 ghost use Rattle.aft_lines.specs.Asked.{Asked, Ran};
@@ -8,9 +9,12 @@ ghost use Rattle.aft_lines.specs.FinishedText.{line_of};
 ghost use Rattle.aft_lines.specs.LegalTrace.{LegalTrace};
 ghost use Rattle.aft_lines.specs.Lines.{lines};
 ghost use Rattle.aft_lines.specs.RunsSoFar.{RunsSoFar};
+ghost use Rattle.aft_lines.specs.Turns.{turns};
 ghost use Rattle.aft_lines.specs.Views.{view_of};
+ghost use Rattle.law_turns.specs.Order.{give_nothing_up, moments_ascend, tie_in_one_list};
 ghost use Rattle.law_accounts.specs.Account.{Account, IsDone, MayGoOn, NoneCollects, Stand, StandsBehind, Waits};
 ghost use Rattle.law_accounts.specs.Adding.{Added, ComesAsOrdered, Follows, maker_of, with_added};
+ghost use Rattle.law_accounts.specs.Turned.{comes_behind, has_node, is_at_node_or_door, turned_by};
 
 /// A run that has an account is a run so far.
 pub fn accounts_are_runs()
@@ -25,4 +29,12 @@ pub fn accounts_go_on()
 /// A run of which each line is over is legal.
 pub fn accounts_end()
     ensures { (asked : Asked) (ran : Ran) (stand : Line → Stand) → Account asked ran stand → ((line : Line) → In line (lines asked) → stand line ≡ IsDone) → LegalTrace asked ran }
+{}
+
+/// The turn that a line makes by an entry stands behind its earlier ones, if no moment falls, turns of one moment stand in one
+/// list and nothing is given up; so it does where the line keeps to one node and the door, and each front is past what the
+/// line made before.
+pub fn turns_follow()
+    ensures in_order { (ran : Ran) (added : Added) → IsTrue (has_node ran added) → IsTrue (moments_ascend (turned_by ran added)) → IsTrue (tie_in_one_list (turned_by ran added)) → IsTrue (give_nothing_up (turned_by ran added)) → turns (maker_of added) (with_added added ran).trace ≡ turned_by ran added }
+    ensures at_one_node { (ran : Ran) (added : Added) (node : ℕ) → IsTrue (has_node ran added) → IsTrue (list_all (is_at_node_or_door node) (turned_by ran added)) → IsTrue (comes_behind ran added (turns (maker_of added) ran.trace)) → IsTrue (give_nothing_up (turned_by ran added)) → turns (maker_of added) (with_added added ran).trace ≡ turned_by ran added }
 {}
