@@ -1,3 +1,4 @@
 pub mod Account
 pub mod Adding
 pub mod Turned
+pub mod Next

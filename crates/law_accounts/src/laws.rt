@@ -1,19 +1,22 @@
 //! Laws of accounts, as calls that do nothing and promise them.
 
-ghost use Rattle.std.specs.Prelude.{◌≡◌, IsTrue, ℕ};
+ghost use Rattle.std.specs.Prelude.{◌≡◌, None, Some, IsTrue, if◌then◌else◌, ℕ};
 ghost use Rattle.std.specs.List.{list_all};
 ghost use Rattle.aft_model.proofs.Histories.{In};
 ghost use Rattle.aft_model.specs.declared.script.Line.{Line};
+ghost use Rattle.aft_model.specs.declared.trace.Trace.{Trace};
 ghost use Rattle.aft_lines.specs.Asked.{Asked, Ran};
 ghost use Rattle.aft_lines.specs.FinishedText.{line_of};
-ghost use Rattle.aft_lines.specs.LegalTrace.{LegalTrace};
-ghost use Rattle.aft_lines.specs.Lines.{lines};
+ghost use Rattle.aft_lines.specs.LegalTrace.{LegalTrace, are_asks};
+ghost use Rattle.aft_lines.specs.Lines.{begins, hold_after, hold_before, lines};
 ghost use Rattle.aft_lines.specs.RunsSoFar.{RunsSoFar};
 ghost use Rattle.aft_lines.specs.Turns.{turns};
-ghost use Rattle.aft_lines.specs.Views.{view_of};
+ghost use Rattle.aft_lines.specs.Views.{line_before, view_of};
+ghost use Rattle.law_held.specs.Desk.{is_script};
 ghost use Rattle.law_turns.specs.Order.{give_nothing_up, moments_ascend, tie_in_one_list};
 ghost use Rattle.law_accounts.specs.Account.{Account, IsDone, MayGoOn, NoneCollects, Stand, StandsBehind, Waits};
 ghost use Rattle.law_accounts.specs.Adding.{Added, ComesAsOrdered, Follows, maker_of, with_added};
+ghost use Rattle.law_accounts.specs.Next.{ComesNext, IsFirst};
 ghost use Rattle.law_accounts.specs.Turned.{comes_behind, has_node, is_at_node_or_door, turned_by};
 
 /// A run that has an account is a run so far.
@@ -37,4 +40,12 @@ pub fn accounts_end()
 pub fn turns_follow()
     ensures in_order { (ran : Ran) (added : Added) → IsTrue (has_node ran added) → IsTrue (moments_ascend (turned_by ran added)) → IsTrue (tie_in_one_list (turned_by ran added)) → IsTrue (give_nothing_up (turned_by ran added)) → turns (maker_of added) (with_added added ran).trace ≡ turned_by ran added }
     ensures at_one_node { (ran : Ran) (added : Added) (node : ℕ) → IsTrue (has_node ran added) → IsTrue (list_all (is_at_node_or_door node) (turned_by ran added)) → IsTrue (comes_behind ran added (turns (maker_of added) ran.trace)) → IsTrue (give_nothing_up (turned_by ran added)) → turns (maker_of added) (with_added added ran).trace ≡ turned_by ran added }
+{}
+
+/// A client holds node 1 and no attempt before its first line; before each next one it holds what the line before gave, if that
+/// begins a transaction, and else what it held before that line.
+pub fn holds_follow()
+    ensures at_first { (asked : Asked) (trace : Trace) (line : Line) → IsFirst asked line → (hold_before (lines asked) trace line ≡ record { node = 1; attempt = None }) × (line_before (lines asked) line ≡ None) }
+    ensures before_next { (asked : Asked) (line next : Line) → IsTrue (is_script asked.script.lines) → IsTrue (are_asks asked) → ComesNext asked line next → line_before (lines asked) next ≡ Some line }
+    ensures at_next { (asked : Asked) (trace : Trace) (line next : Line) → IsTrue (is_script asked.script.lines) → IsTrue (are_asks asked) → ComesNext asked line next → hold_before (lines asked) trace next ≡ (if begins line.order then hold_after trace (Some line) else hold_before (lines asked) trace line) }
 {}
