@@ -2,3 +2,4 @@ pub mod Account
 pub mod Adding
 pub mod Turned
 pub mod Next
+pub mod Opened

@@ -17,6 +17,7 @@ ghost use Rattle.law_turns.specs.Order.{give_nothing_up, moments_ascend, tie_in_
 ghost use Rattle.law_accounts.specs.Account.{Account, IsDone, MayGoOn, NoneCollects, Stand, StandsBehind, Waits};
 ghost use Rattle.law_accounts.specs.Adding.{Added, ComesAsOrdered, Follows, maker_of, with_added};
 ghost use Rattle.law_accounts.specs.Next.{ComesNext, IsFirst};
+ghost use Rattle.law_accounts.specs.Opened.{Opened};
 ghost use Rattle.law_accounts.specs.Turned.{comes_behind, has_node, is_at_node_or_door, turned_by};
 
 /// A run that has an account is a run so far.
@@ -48,4 +49,9 @@ pub fn holds_follow()
     ensures at_first { (asked : Asked) (trace : Trace) (line : Line) → IsFirst asked line → (hold_before (lines asked) trace line ≡ record { node = 1; attempt = None }) × (line_before (lines asked) line ≡ None) }
     ensures before_next { (asked : Asked) (line next : Line) → IsTrue (is_script asked.script.lines) → IsTrue (are_asks asked) → ComesNext asked line next → line_before (lines asked) next ≡ Some line }
     ensures at_next { (asked : Asked) (trace : Trace) (line next : Line) → IsTrue (is_script asked.script.lines) → IsTrue (are_asks asked) → ComesNext asked line next → hold_before (lines asked) trace next ≡ (if begins line.order then hold_after trace (Some line) else hold_before (lines asked) trace line) }
+{}
+
+/// Behind its opening a run has an account in which each line waits.
+pub fn accounts_begin()
+    ensures { (asked : Asked) (ran : Ran) → IsTrue (is_script asked.script.lines) → IsTrue (are_asks asked) → Opened asked ran → Account asked ran (λ line. Waits) }
 {}
