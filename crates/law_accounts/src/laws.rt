@@ -1,16 +1,24 @@
 //! Laws of accounts, as calls that do nothing and promise them.
 
-ghost use Rattle.std.specs.Prelude.{◌≡◌};
+ghost use Rattle.std.specs.Prelude.{◌≡◌, None, Some, IsTrue, if◌then◌else◌, ℕ};
+ghost use Rattle.std.specs.List.{list_all};
 ghost use Rattle.aft_model.proofs.Histories.{In};
 ghost use Rattle.aft_model.specs.declared.script.Line.{Line};
+ghost use Rattle.aft_model.specs.declared.trace.Trace.{Trace};
 ghost use Rattle.aft_lines.specs.Asked.{Asked, Ran};
 ghost use Rattle.aft_lines.specs.FinishedText.{line_of};
-ghost use Rattle.aft_lines.specs.LegalTrace.{LegalTrace};
-ghost use Rattle.aft_lines.specs.Lines.{lines};
+ghost use Rattle.aft_lines.specs.LegalTrace.{LegalTrace, are_asks};
+ghost use Rattle.aft_lines.specs.Lines.{begins, hold_after, hold_before, lines};
 ghost use Rattle.aft_lines.specs.RunsSoFar.{RunsSoFar};
-ghost use Rattle.aft_lines.specs.Views.{view_of};
+ghost use Rattle.aft_lines.specs.Turns.{turns};
+ghost use Rattle.aft_lines.specs.Views.{line_before, view_of};
+ghost use Rattle.law_held.specs.Desk.{is_script};
+ghost use Rattle.law_turns.specs.Order.{give_nothing_up, moments_ascend, tie_in_one_list};
 ghost use Rattle.law_accounts.specs.Account.{Account, IsDone, MayGoOn, NoneCollects, Stand, StandsBehind, Waits};
 ghost use Rattle.law_accounts.specs.Adding.{Added, ComesAsOrdered, Follows, maker_of, with_added};
+ghost use Rattle.law_accounts.specs.Next.{ComesNext, IsFirst};
+ghost use Rattle.law_accounts.specs.Opened.{Opened};
+ghost use Rattle.law_accounts.specs.Turned.{comes_behind, has_node, is_at_node_or_door, turned_by};
 
 /// A run that has an account is a run so far.
 pub fn accounts_are_runs()
@@ -25,4 +33,25 @@ pub fn accounts_go_on()
 /// A run of which each line is over is legal.
 pub fn accounts_end()
     ensures { (asked : Asked) (ran : Ran) (stand : Line → Stand) → Account asked ran stand → ((line : Line) → In line (lines asked) → stand line ≡ IsDone) → LegalTrace asked ran }
+{}
+
+/// The turn that a line makes by an entry stands behind its earlier ones, if no moment falls, turns of one moment stand in one
+/// list and nothing is given up; so it does where the line keeps to one node and the door, and each front is past what the
+/// line made before.
+pub fn turns_follow()
+    ensures in_order { (ran : Ran) (added : Added) → IsTrue (has_node ran added) → IsTrue (moments_ascend (turned_by ran added)) → IsTrue (tie_in_one_list (turned_by ran added)) → IsTrue (give_nothing_up (turned_by ran added)) → turns (maker_of added) (with_added added ran).trace ≡ turned_by ran added }
+    ensures at_one_node { (ran : Ran) (added : Added) (node : ℕ) → IsTrue (has_node ran added) → IsTrue (list_all (is_at_node_or_door node) (turned_by ran added)) → IsTrue (comes_behind ran added (turns (maker_of added) ran.trace)) → IsTrue (give_nothing_up (turned_by ran added)) → turns (maker_of added) (with_added added ran).trace ≡ turned_by ran added }
+{}
+
+/// A client holds node 1 and no attempt before its first line; before each next one it holds what the line before gave, if that
+/// begins a transaction, and else what it held before that line.
+pub fn holds_follow()
+    ensures at_first { (asked : Asked) (trace : Trace) (line : Line) → IsFirst asked line → (hold_before (lines asked) trace line ≡ record { node = 1; attempt = None }) × (line_before (lines asked) line ≡ None) }
+    ensures before_next { (asked : Asked) (line next : Line) → IsTrue (is_script asked.script.lines) → IsTrue (are_asks asked) → ComesNext asked line next → line_before (lines asked) next ≡ Some line }
+    ensures at_next { (asked : Asked) (trace : Trace) (line next : Line) → IsTrue (is_script asked.script.lines) → IsTrue (are_asks asked) → ComesNext asked line next → hold_before (lines asked) trace next ≡ (if begins line.order then hold_after trace (Some line) else hold_before (lines asked) trace line) }
+{}
+
+/// Behind its opening a run has an account in which each line waits.
+pub fn accounts_begin()
+    ensures { (asked : Asked) (ran : Ran) → IsTrue (is_script asked.script.lines) → IsTrue (are_asks asked) → Opened asked ran → Account asked ran (λ line. Waits) }
 {}
