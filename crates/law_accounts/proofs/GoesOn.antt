@@ -191,7 +191,7 @@ module _ (asked : Asked) (ran : Ran) (stand later : Line → Stand) (line : Line
                 lt_of a b le apart = grind arith
 
     view_is : view_of asked new other ≡ beside new.trace.nodes old_view
-    view_is = view_same asked ran added other none_earlier stranger (end_within (length ran.trace.door) (turns (line_of other) ran.trace) within)
+    view_is = view_same asked ran added other (λ one client low. none_earlier one client (omega arith)) stranger (none_earlier other refl (omega arith)) (end_within (length ran.trace.door) (turns (line_of other) ran.trace) within)
 
     may_beside : MayBeside old_view new.trace.nodes
     may_beside collects = cases added none

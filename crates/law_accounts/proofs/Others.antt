@@ -75,7 +75,7 @@ module _ (by : By) where
       ap (λ (l : List Turn). fold with_turn [] (nodes_turns by 1 ran.trace.nodes ++ door_turns by 0 ran.trace.door ++ l)) (office_same [] ran.trace.office entry strange)
   turns_same ran (AddsAtBox box entry) strange = refl
 
-  office_first : (ran : Ran) (added : Added) → IsFalse (same_line by (maker_of added)) → from_office by (with_added added ran).mail ≡ from_office by ran.mail
+  pub office_first : (ran : Ran) (added : Added) → IsFalse (same_line by (maker_of added)) → from_office by (with_added added ran).mail ≡ from_office by ran.mail
   office_first ran (AddsAtDoor entry) strange = refl
   office_first ran (AddsAtNode node entry) strange = refl
   office_first ran (AddsAtOffice entry) strange = refl
