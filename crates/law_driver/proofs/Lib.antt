@@ -1,1 +1,3 @@
-
+pub mod Seeing
+pub mod Rights
+pub mod Node
