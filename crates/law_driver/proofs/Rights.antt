@@ -35,11 +35,11 @@ right_parts command hold turn right =
     (one.0, one.1, two.1, three.1)
 
 -- the line's node
-pub number_in : Option ℕ → ℕ
+abbrev pub number_in : Option ℕ → ℕ
 number_in (Some node) = node
 number_in None = 0
 
-pub node_of : Command → Hold → ℕ
+abbrev pub node_of : Command → Hold → ℕ
 node_of command hold = number_in (named_node command hold)
 
 named_is : (command : Command) (hold : Hold) → IsTrue (is_at_one_node command) → named_node command hold ≡ Some (node_of command hold)
