@@ -1,8 +1,8 @@
 -- The turn that a line makes by an entry stands behind its earlier ones.
-use Rattle.std.proofs.Common.{◌≡◌, ◌≤◌, ◌<◌, ℕ, zero, suc, ◌+◌, Bool, true, false, ◌&&◌, ◌||◌, not, List, [], ◌∷◌, ◌++◌, refl, sym, ap, subst, ◌∙◌, inl, inr, eqb, leb, ltb, arith, append-nil, append_assoc, length}
-use Rattle.std.specs.Prelude.{IsTrue, IsFalse, if◌then◌else◌, is_none, filter}
+use Rattle.std.proofs.Common.{◌≡◌, ◌≤◌, ◌<◌, ℕ, suc, ◌+◌, Bool, true, false, ◌||◌, not, List, [], ◌∷◌, ◌++◌, refl, sym, ap, subst, ◌∙◌, inl, inr, eqb, leb, ltb, arith, append-nil, append_assoc, length}
+use Rattle.std.specs.Prelude.{IsTrue, IsFalse, if◌then◌else◌, is_none}
 use Rattle.std.specs.List.{fold, list_all}
-use Rattle.std.proofs.lemmas.Bool.{and_from, and_parts, cases_Bool, eq-eqb, eqb-false, eqb-true, false≢true, leb-true, le-leb, ltb-true, ne_eqb, or_cases, or_left, or_right, not-true, true≢false}
+use Rattle.std.proofs.lemmas.Bool.{and_from, and_parts, cases_Bool, eqb-false, eqb-true, false≢true, leb-true, le-leb, ltb-true, ne_eqb, or_cases, not-true, true≢false}
 use Rattle.std.proofs.lemmas.List.Elements.{filter-append}
 use Rattle.aft_id.specs.declared.txn_id.TxnId.{TxnId}
 use Rattle.aft_model.specs.declared.caller.By.{By}
@@ -15,7 +15,7 @@ use Rattle.aft_model.specs.declared.script.Command.{Command}
 use Rattle.aft_model.specs.declared.script.Command.TheVariants as commands
 use Rattle.aft_model.specs.declared.trace.Trace.{Trace}
 use Rattle.aft_model.proofs.Histories.{In, all_at, in_append, in_back, in_front}
-use Rattle.aft_model.proofs.Lists.{all_from, in_snoc}
+use Rattle.aft_model.proofs.Lists.{all_from}
 use Rattle.aft_model.specs.ScanRun.{same_line}
 use Rattle.aft_lines.specs.Asked.{Ran}
 use Rattle.aft_lines.specs.CausesRounds.{is_collect}
@@ -28,10 +28,10 @@ use Rattle.law_runs.proofs.Walks.{stands_in}
 use Rattle.law_steps.specs.OneList.{entries_of}
 use Rattle.law_turns.proofs.Lists.{filter_none}
 use Rattle.law_turns.proofs.Sorting.{alike, at_moment, elsewhere, here, sorted_ascends, sorted_stable}
-use Rattle.law_turns.specs.Order.{give_nothing_up, is_at_door, is_at_node, is_at_office, moments_ascend, same_list, tie_in_one_list}
+use Rattle.law_turns.specs.Order.{give_nothing_up, is_at_door, is_at_node, moments_ascend, same_list, tie_in_one_list}
 use Rattle.law_accounts.proofs.Lists.{all_so}
 use Rattle.law_accounts.specs.Adding.{AddsAtBox, AddsAtDoor, AddsAtNode, AddsAtOffice, Added, maker_of, numbered_in, with_added, with_entry_in}
-use Rattle.law_accounts.specs.Turned.{comes_behind, has_node, is_at_node_or_door, is_past, turn_by, turned_by}
+use Rattle.law_accounts.specs.Turned.{comes_behind, has_node, is_at_node_or_door, is_past, turned_by}
 
 -- ---- one more in its list
 
