@@ -31,7 +31,7 @@ use Rattle.law_turns.proofs.Sorting.{alike, at_moment, elsewhere, here, sorted_a
 use Rattle.law_turns.specs.Order.{give_nothing_up, is_at_door, is_at_node, moments_ascend, same_list, tie_in_one_list}
 use Rattle.law_accounts.proofs.Lists.{all_so}
 use Rattle.law_accounts.specs.Adding.{AddsAtBox, AddsAtDoor, AddsAtNode, AddsAtOffice, Added, maker_of, numbered_in, with_added, with_entry_in}
-use Rattle.law_accounts.specs.Turned.{comes_behind, has_node, is_at_node_or_door, is_past, turned_by}
+use Rattle.law_accounts.specs.Turned.{comes_after, has_node, is_at_node_or_door, is_past, turned_by}
 
 -- ---- one more in its list
 
@@ -317,7 +317,7 @@ low_moment last (AtNode node before entry) low front = (let le = leb-true entry.
 low_moment last (AtOffice before entry) low front = (let le = leb-true entry.front last front in omega arith)
 
 -- no moment falls
-climbs : (ran : Ran) (added : Added) → IsTrue (comes_behind ran added (turns (maker_of added) ran.trace)) → IsTrue (moments_ascend (turned_by ran added))
+climbs : (ran : Ran) (added : Added) → IsTrue (comes_after ran added (turns (maker_of added) ran.trace)) → IsTrue (moments_ascend (turned_by ran added))
 climbs ran (AddsAtDoor entry) behind =
     ascends_more (turns entry.by ran.trace) (AtDoor (length ran.trace.door) entry.act) (sorted_ascends [] (entries_of entry.by ran.trace) refl)
     (λ x among. low_moment (length ran.trace.door) x (low_turns entry.by ran.trace x among) (all_at (λ (t : Turn). leb (front_in t) (length ran.trace.door)) x (turns entry.by ran.trace) among behind))
@@ -331,6 +331,6 @@ climbs ran (AddsAtBox box entry) behind =
     subst (λ (l : List Turn). IsTrue (moments_ascend l)) (sym (append-nil (turns entry.by ran.trace))) (sorted_ascends [] (entries_of entry.by ran.trace) refl)
 
 pub turned_there : (command : Command) (ran : Ran) (added : Added) (node : ℕ) → IsFalse (is_collect command) → IsTrue (has_node ran added) → IsTrue (list_all (makes command) (turned_by ran added)) → IsTrue (list_all (is_at_node_or_door node) (turned_by ran added))
-    → IsTrue (comes_behind ran added (turns (maker_of added) ran.trace)) → turns (maker_of added) (with_added added ran).trace ≡ turned_by ran added
+    → IsTrue (comes_after ran added (turns (maker_of added) ran.trace)) → turns (maker_of added) (with_added added ran).trace ≡ turned_by ran added
 turned_there command ran added node other has made at behind =
     turns_turned ran added has (climbs ran added behind) (ties_there node (turned_by ran added) at) (all_so (makes command) (λ (turn : Turn). is_none (given_in turn)) (gives_none command other) (turned_by ran added) made)

@@ -21,7 +21,7 @@ ghost use Rattle.law_accounts.specs.Account.{Account, IsDone, MayGoOn, NoneColle
 ghost use Rattle.law_accounts.specs.Adding.{Added, ComesAsOrdered, Follows, maker_of, with_added};
 ghost use Rattle.law_accounts.specs.Next.{ComesNext, IsFirst};
 ghost use Rattle.law_accounts.specs.Opened.{Opened};
-ghost use Rattle.law_accounts.specs.Turned.{comes_behind, has_node, is_at_node_or_door, turned_by};
+ghost use Rattle.law_accounts.specs.Turned.{comes_after, has_node, is_at_node_or_door, turned_by};
 
 /// A run that has an account is a run so far.
 pub fn accounts_are_runs()
@@ -43,7 +43,7 @@ pub fn accounts_end()
 /// front at the node is past each earlier turn, and none at the door had seen more than there is.
 pub fn turns_follow()
     ensures in_order { (ran : Ran) (added : Added) → IsTrue (has_node ran added) → IsTrue (moments_ascend (turned_by ran added)) → IsTrue (tie_in_one_list (turned_by ran added)) → IsTrue (give_nothing_up (turned_by ran added)) → turns (maker_of added) (with_added added ran).trace ≡ turned_by ran added }
-    ensures at_one_node { (command : Command) (ran : Ran) (added : Added) (node : ℕ) → IsFalse (is_collect command) → IsTrue (has_node ran added) → IsTrue (list_all (makes command) (turned_by ran added)) → IsTrue (list_all (is_at_node_or_door node) (turned_by ran added)) → IsTrue (comes_behind ran added (turns (maker_of added) ran.trace)) → turns (maker_of added) (with_added added ran).trace ≡ turned_by ran added }
+    ensures at_one_node { (command : Command) (ran : Ran) (added : Added) (node : ℕ) → IsFalse (is_collect command) → IsTrue (has_node ran added) → IsTrue (list_all (makes command) (turned_by ran added)) → IsTrue (list_all (is_at_node_or_door node) (turned_by ran added)) → IsTrue (comes_after ran added (turns (maker_of added) ran.trace)) → turns (maker_of added) (with_added added ran).trace ≡ turned_by ran added }
 {}
 
 /// A client holds node 1 and no attempt before its first line; before each next one it holds what the line before gave, if that
