@@ -17,12 +17,12 @@ use Rattle.aft_lines.specs.LinePosts.{AtBox, at_boxes, from_nodes, from_office, 
 use Rattle.aft_lines.specs.Turns.{AtDoor, AtNode, AtOffice, Turn, door_turns, node_turns, nodes_turns, office_turns, turns, with_turn}
 use Rattle.law_accounts.specs.Adding.{AddsAtBox, AddsAtDoor, AddsAtNode, AddsAtOffice, Added, maker_of, with_added, with_entry_in}
 
-module _ (by : By) where
-  -- of an entry of another line nothing is taken
-  none_taken : {A : Type 0} (t : Bool) (xs rest : List A) → t ≡ false → (if t then xs else []) ++ rest ≡ rest
-  none_taken true xs rest is = (cc)
-  none_taken false xs rest is = refl
+-- of an entry of another line nothing is taken
+pub none_taken : {A : Type 0} (t : Bool) (xs rest : List A) → t ≡ false → (if t then xs else []) ++ rest ≡ rest
+none_taken true xs rest is = (cc)
+none_taken false xs rest is = refl
 
+module _ (by : By) where
   door_same : (place : ℕ) (door : List DoorEntry) (entry : DoorEntry) → same_line by entry.by ≡ false → door_turns by place (door ++ entry ∷ []) ≡ door_turns by place door
   door_same place [] entry strange = none_taken (same_line by entry.by) (AtDoor place entry.act ∷ []) [] strange
   door_same place (first ∷ door) entry strange = ap (λ (l : List Turn). (if same_line by first.by then AtDoor place first.act ∷ [] else []) ++ l) (door_same (suc place) door entry strange)

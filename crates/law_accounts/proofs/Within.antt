@@ -62,8 +62,8 @@ pub turns_within : (by : By) (capacity : ℕ) (trace : Trace) → IsTrue (are_le
 turns_within by capacity trace nodes office =
     let beside = (and_parts (is_legal_alone trace.office) (is_legal_beside trace.door trace.office) office).1 in
     let all : IsTrue (list_all (is_within (length trace.door)) (entries_of by trace)) =
-        list_all-append (is_within (length trace.door)) (nodes_turns by 1 trace.nodes ++ door_turns by 0 trace.door) (office_turns by [] trace.office)
-        ∙ and_from _ _
-        (list_all-append (is_within (length trace.door)) (nodes_turns by 1 trace.nodes) (door_turns by 0 trace.door) ∙ and_from _ _ (nodes_within by trace.door 1 capacity trace.nodes nodes) (door_within by trace.door 0 trace.door (omega arith)))
-        (office_within by trace.door [] trace.office beside) in
+    list_all-append (is_within (length trace.door)) (nodes_turns by 1 trace.nodes ++ door_turns by 0 trace.door) (office_turns by [] trace.office)
+    ∙ and_from _ _
+    (list_all-append (is_within (length trace.door)) (nodes_turns by 1 trace.nodes) (door_turns by 0 trace.door) ∙ and_from _ _ (nodes_within by trace.door 1 capacity trace.nodes nodes) (door_within by trace.door 0 trace.door (omega arith)))
+    (office_within by trace.door [] trace.office beside) in
     all_from (is_within (length trace.door)) (turns by trace) (λ turn among. all_at (is_within (length trace.door)) turn (entries_of by trace) (turns_in by trace turn among) all)

@@ -1,0 +1,308 @@
+-- An account is kept with each entry more.
+use Rattle.std.proofs.Common.{◌≡◌, ◌≤◌, ◌<◌, ℕ, suc, Bool, true, false, ◌&&◌, ◌||◌, not, List, [], ◌∷◌, ◌++◌, refl, sym, subst, ap, ◌∙◌, ◌⊎◌, inl, inr, eqb, arith}
+use Rattle.std.specs.Prelude.{IsFalse, IsTrue, None, Option, Some, is_some, length, map}
+use Rattle.std.specs.List.{fold, list_all}
+use Rattle.std.proofs.lemmas.Bool.{and_from, and_parts, cases_Bool, eq-eqb, eqb-false, eqb-true, not-true, or_right, true≢false}
+use Rattle.std.proofs.lemmas.List.Folds.{list_all-append}
+use Rattle.aft_model.specs.declared.caller.By.{By}
+use Rattle.aft_model.specs.declared.door.DoorEntry.{DoorEntry}
+use Rattle.aft_model.specs.declared.mail.MailEntry.{MailEntry}
+use Rattle.aft_model.specs.declared.node.NodeEntry.{NodeEntry}
+use Rattle.aft_model.specs.declared.office.OfficeEntry.{OfficeEntry}
+use Rattle.aft_model.specs.declared.reply.Reply.{Reply}
+use Rattle.aft_model.specs.declared.script.Command.{Command}
+use Rattle.aft_model.specs.declared.script.Line.{Line}
+use Rattle.aft_model.proofs.Histories.{In}
+use Rattle.aft_model.specs.Membership.{the_office}
+use Rattle.aft_model.specs.Opening.{opening}
+use Rattle.aft_model.specs.ScanRun.{same_line}
+use Rattle.aft_lines.specs.Advance.{is_led_to_end, leads_to}
+use Rattle.aft_lines.specs.Asked.{Asked, Ran}
+use Rattle.aft_lines.specs.Causes.{Caused}
+use Rattle.aft_lines.specs.CausesRounds.{is_collect}
+use Rattle.aft_lines.specs.FinishedText.{line_of}
+use Rattle.aft_lines.specs.CausesAttempts.{speaks_of_attempt}
+use Rattle.aft_lines.specs.LegalTrace.{makers, named_node, stands_at, turn_of, turn_words}
+use Rattle.aft_lines.specs.Makes.{makes}
+use Rattle.aft_lines.specs.LineView.{LineView, ends_of}
+use Rattle.aft_lines.specs.Lines.{lines, node_numbers, whole_order}
+use Rattle.aft_lines.specs.Progress.{Progress}
+use Rattle.aft_lines.specs.RunsSoFar.{is_stopped_rightly, position_of}
+use Rattle.aft_lines.specs.Turns.{Turn, door_turns, end_front, node_turns, nodes_turns, office_turns, turns, with_turn}
+use Rattle.aft_lines.specs.Views.{view_of}
+use Rattle.law_grows.proofs.Positions.{end_within, positions_over}
+use Rattle.law_grows.specs.Reach.{is_within}
+use Rattle.law_held.proofs.DeskHeld.{among_itself}
+use Rattle.law_runs.specs.Runs.{line_among}
+use Rattle.law_accounts.proofs.Lists.{all_more}
+use Rattle.law_accounts.proofs.Orders.{as_ordered, opening_parts, asks_so, clients_so, makers_so, opens_so}
+use Rattle.law_accounts.proofs.Others.{none_taken}
+use Rattle.law_accounts.proofs.Values.{boxes_stay, bytes_stay, clock_stays, door_stays, give_ups_stay, nodes_stay, office_stays_legal, settings_stay, stays_open}
+use Rattle.law_accounts.proofs.Views.{view_same}
+use Rattle.law_accounts.proofs.Within.{turns_within}
+use Rattle.law_accounts.specs.Account.{Account, ComesToEnd, GoesAlong, IsDone, MayBeside, MayGoOn, NoneCollects, Runs, Stand, StandsBehind, Waits, beside, has_made_nothing}
+use Rattle.law_accounts.specs.Adding.{AddsAtBox, AddsAtDoor, AddsAtNode, AddsAtOffice, Added, ComesAsOrdered, Follows, maker_of, with_added}
+
+-- ---- a line that has made nothing
+
+-- it has no turn
+module _ (by : By) where
+  abbrev strange : By → Bool
+  strange other = not (same_line by other)
+
+  door_none : (place : ℕ) (door : List DoorEntry) → IsTrue (list_all strange (map (λ (e : DoorEntry). e.by) door)) → door_turns by place door ≡ []
+  door_none place [] none = refl
+  door_none place (entry ∷ door) none =
+      let parts = and_parts (strange entry.by) (list_all strange (map (λ (e : DoorEntry). e.by) door)) none in
+      none_taken (same_line by entry.by) _ (door_turns by (suc place) door) (not-true (same_line by entry.by) parts.0) ∙ door_none (suc place) door parts.1
+
+  node_none : (node : ℕ) (before history : List NodeEntry) → IsTrue (list_all strange (map (λ (e : NodeEntry). e.by) history)) → node_turns by node before history ≡ []
+  node_none node before [] none = refl
+  node_none node before (entry ∷ history) none =
+      let parts = and_parts (strange entry.by) (list_all strange (map (λ (e : NodeEntry). e.by) history)) none in
+      none_taken (same_line by entry.by) _ (node_turns by node (before ++ entry ∷ []) history) (not-true (same_line by entry.by) parts.0) ∙ node_none node (before ++ entry ∷ []) history parts.1
+
+  nodes_none : (first : ℕ) (nodes : List (List NodeEntry)) → IsTrue (list_all (list_all strange) (map (map (λ (e : NodeEntry). e.by)) nodes)) → nodes_turns by first nodes ≡ []
+  nodes_none first [] none = refl
+  nodes_none first (history ∷ nodes) none =
+      let parts = and_parts (list_all strange (map (λ (e : NodeEntry). e.by) history)) (list_all (list_all strange) (map (map (λ (e : NodeEntry). e.by)) nodes)) none in
+      ap (λ (l : List Turn). l ++ nodes_turns by (suc first) nodes) (node_none first [] history parts.0) ∙ nodes_none (suc first) nodes parts.1
+
+  office_none : (before office : List OfficeEntry) → IsTrue (list_all strange (map (λ (e : OfficeEntry). e.by) office)) → office_turns by before office ≡ []
+  office_none before [] none = refl
+  office_none before (entry ∷ office) none =
+      let parts = and_parts (strange entry.by) (list_all strange (map (λ (e : OfficeEntry). e.by) office)) none in
+      none_taken (same_line by entry.by) _ (office_turns by (before ++ entry ∷ []) office) (not-true (same_line by entry.by) parts.0) ∙ office_none (before ++ entry ∷ []) office parts.1
+
+  turns_none : (ran : Ran) → IsTrue (list_all (list_all strange) (makers ran)) → turns by ran.trace ≡ []
+  turns_none ran none =
+      let first = and_parts (list_all strange (map (λ (e : DoorEntry). e.by) ran.trace.door)) _ none in
+      let second = and_parts (list_all strange (map (λ (e : OfficeEntry). e.by) ran.trace.office)) _ first.1 in
+      let third = and_parts (list_all (list_all strange) (map (map (λ (e : NodeEntry). e.by)) ran.trace.nodes)) (list_all (list_all strange) (map (map (λ (e : MailEntry). e.by)) ran.mail)) (sym (list_all-append (list_all strange) (map (map (λ (e : NodeEntry). e.by)) ran.trace.nodes) (map (map (λ (e : MailEntry). e.by)) ran.mail)) ∙ second.1) in
+      ap (λ (l : List Turn). fold with_turn [] (l ++ door_turns by 0 ran.trace.door ++ office_turns by [] ran.trace.office)) (nodes_none 1 ran.trace.nodes third.0)
+      ∙ ap (λ (l : List Turn). fold with_turn [] (l ++ office_turns by [] ran.trace.office)) (door_none 0 ran.trace.door first.0)
+      ∙ ap (λ (l : List Turn). fold with_turn [] l) (office_none [] ran.trace.office second.0)
+
+-- so it goes along
+pub goes_idle : (view : LineView) → view.turns ≡ [] → GoesAlong view
+goes_idle view none = record {
+  leads = subst (λ (l : List Turn). IsTrue (is_some (leads_to view.command (node_numbers view.settings) (ends_of view) l))) (sym none) refl;
+  stopped = subst (λ (l : List Turn). IsTrue (is_stopped_rightly view.seen l (leads_to view.command (node_numbers view.settings) (ends_of view) l))) (sym none) refl;
+  makes = subst (λ (l : List Turn). IsTrue (list_all (makes view.command) l)) (sym none) refl;
+  words = subst (λ (l : List Turn). IsTrue (list_all (turn_words view.command) l)) (sym none) refl;
+  places = subst (λ (l : List Turn). IsTrue (list_all (stands_at (named_node view.command view.hold)) l)) (sym none) refl;
+  speaks = subst (λ (l : List Turn). IsTrue (not (speaks_of_attempt view.command) || list_all (turn_of view.hold.attempt) l)) (sym none) (or_right _ _ refl);
+}
+
+-- ---- a line beside other nodes
+
+module _ (view : LineView) (nodes : List (List NodeEntry)) (reach : ℕ) (within : IsTrue (list_all (is_within reach) view.turns)) (may : MayBeside view nodes) where
+  position_beside : position_of (beside nodes view) ≡ position_of view
+  position_beside =
+      positions_over view.command (node_numbers view.settings) reach (ends_of (beside nodes view)) (ends_of view) view.turns
+      (record { seen = λ place low. refl; shut_out = λ who front low. refl; left = refl }) (λ collects. ap (λ (n : List (List NodeEntry)). (ends_of (beside n view)).is_kept) (may collects)) refl within
+
+  pub goes_beside : GoesAlong view → GoesAlong (beside nodes view)
+  goes_beside goes = record {
+    leads = subst (λ (p : Option Progress). IsTrue (is_some p)) (sym position_beside) goes.leads;
+    stopped = subst (λ (p : Option Progress). IsTrue (is_stopped_rightly view.seen view.turns p)) (sym position_beside) goes.stopped;
+    makes = goes.makes;
+    words = goes.words;
+    places = goes.places;
+    speaks = goes.speaks;
+  }
+
+  pub ends_beside : ComesToEnd view → ComesToEnd (beside nodes view)
+  ends_beside ends = record {
+    leads = subst (λ (p : Option Progress). IsTrue (is_led_to_end p)) (sym position_beside) ends.leads;
+    answers = ends.answers;
+    posts = ends.posts;
+    caused = λ others reply so last. ends.caused others reply (λ collects. so collects ∙ may collects) last;
+  }
+
+-- ---- one entry more
+
+module _ (asked : Asked) (ran : Ran) (stand later : Line → Stand) (line : Line) (added : Added) (account : Account asked ran stand) (may : MayGoOn asked stand line) (by : maker_of added ≡ line_of line) (follows : Follows asked ran added)
+    (ordered : ComesAsOrdered asked ran added) (none : NoneCollects asked stand added) (behind : StandsBehind asked stand later line (view_of asked (with_added added ran) line)) where
+  abbrev new : Ran
+  new = with_added added ran
+
+  unless_over : stand line ≡ IsDone → ⊥
+  unless_over done = cases may.unless_over
+    where
+      cases : (stand line ≡ Waits) ⊎ (stand line ≡ Runs) → ⊥
+      cases (inl waits) = cc
+      cases (inr runs) = cc
+
+  has_begun : later line ≡ Waits → ⊥
+  has_begun waits = cases behind.now
+    where
+      cases : (later line ≡ Runs) ⊎ (later line ≡ IsDone) × ComesToEnd (view_of asked new line) → ⊥
+      cases (inl runs) = cc
+      cases (inr over) = (let done = over.0 in cc)
+
+  stranger : IsFalse (same_line opening (maker_of added))
+  stranger = subst (λ (b : By). IsFalse (same_line opening b)) (sym by) (account.strangers line may.among)
+
+  -- who is the same line is this one
+  is_it : (other : Line) → In other (lines asked) → IsTrue (same_line (line_of other) (line_of line)) → other ≡ line
+  is_it other listed same = some_is other line (sym (among_itself [] (lines asked) account.differ other listed) ∙ ap (λ (b : By). line_among b (lines asked)) own ∙ among_itself [] (lines asked) account.differ line may.among)
+    where
+      own : line_of other ≡ line_of line
+      own =
+          let parts = and_parts (eqb other.client line.client) (eqb other.number line.number) same in
+          ap (λ c. record { client = c; line = other.number }) (eqb-true other.client line.client parts.0) ∙ ap (λ n. record { client = line.client; line = n }) (eqb-true other.number line.number parts.1)
+
+      some_is : (a b : Line) → Some a ≡ Some b → a ≡ b
+      some_is a b e = cc
+
+  its_maker : (other : Line) → IsFalse (same_line (line_of other) (line_of line)) → IsFalse (same_line (line_of other) (maker_of added))
+  its_maker other differs = subst (λ (b : By). IsFalse (same_line (line_of other) b)) (sym by) differs
+
+  -- ---- another line that has begun
+
+  module _ (other : Line) (listed : In other (lines asked)) (differs : IsFalse (same_line (line_of other) (line_of line))) (begun : stand other ≡ Waits → ⊥) where
+    abbrev old_view : LineView
+    old_view = view_of asked ran other
+
+    within : IsTrue (list_all (is_within (length ran.trace.door)) (turns (line_of other) ran.trace))
+    within = turns_within (line_of other) asked.settings.cache ran.trace account.nodes account.office
+
+    -- no earlier line of its client is this one, which isn't over
+    none_earlier : (one : Line) → one.client ≡ other.client → one.number ≤ other.number → IsFalse (same_line (line_of one) (maker_of added))
+    none_earlier one client low = elim (cases_Bool (same_line (line_of one) (line_of line))) [
+      | inl same ↦
+          let parts = and_parts (eqb one.client line.client) (eqb one.number line.number) same in
+          let its = eqb-true one.number line.number parts.1 in
+          absurd (apart (sym client ∙ eqb-true one.client line.client parts.0) (subst (λ n. n ≤ other.number) its low))
+      | inr not_it ↦ its_maker one not_it
+    ]
+      where
+        apart : other.client ≡ line.client → line.number ≤ other.number → ⊥
+        apart client low = elim (cases_Bool (eqb other.number line.number)) [
+          | inl number ↦ true≢false (sym (and_from _ _ (eq-eqb other.client line.client client) number) ∙ differs)
+          | inr more ↦ elim (account.in_turn line other may.among listed client (above line.number other.number low more)) [ inl waits ↦ begun waits | inr done ↦ unless_over done ]
+        ]
+          where
+            above : (a b : ℕ) → a ≤ b → eqb b a ≡ false → a < b
+            above a b le differ = (let apart = eqb-false b a differ in lt_of a b le (λ e. apart (sym e)))
+              where
+                lt_of : (a b : ℕ) → a ≤ b → (a ≡ b → ⊥) → a < b
+                lt_of a b le apart = grind arith
+
+    view_is : view_of asked new other ≡ beside new.trace.nodes old_view
+    view_is = view_same asked ran added other none_earlier stranger (end_within (length ran.trace.door) (turns (line_of other) ran.trace) within)
+
+    may_beside : MayBeside old_view new.trace.nodes
+    may_beside collects = cases added none
+      where
+        cases : (one : Added) → NoneCollects asked stand one → (with_added one ran).trace.nodes ≡ ran.trace.nodes
+        cases (AddsAtDoor entry) idle = refl
+        cases (AddsAtNode node entry) idle = absurd (begun (idle other listed collects))
+        cases (AddsAtOffice entry) idle = refl
+        cases (AddsAtBox box entry) idle = refl
+
+    other_goes : GoesAlong (view_of asked new other)
+    other_goes = subst GoesAlong (sym view_is) (goes_beside old_view new.trace.nodes (length ran.trace.door) within may_beside (account.going other listed))
+
+    other_ends : ComesToEnd old_view → ComesToEnd (view_of asked new other)
+    other_ends ends = subst ComesToEnd (sym view_is) (ends_beside old_view new.trace.nodes (length ran.trace.door) within may_beside ends)
+
+  -- ---- all lines
+
+  waits_still : (other : Line) → IsFalse (same_line (line_of other) (line_of line)) → IsTrue (has_made_nothing other ran) → IsTrue (has_made_nothing other new)
+  waits_still other differs nothing =
+      makers_so (list_all (λ (b : By). not (same_line (line_of other) b))) ran added nothing (λ xs inside is. all_more (λ (b : By). not (same_line (line_of other) b)) xs (maker_of added) is (ap not (its_maker other differs)))
+
+  waiting : (other : Line) → In other (lines asked) → later other ≡ Waits → IsTrue (has_made_nothing other new)
+  waiting other listed waits = elim (cases_Bool (same_line (line_of other) (line_of line))) [
+    | inl same ↦ absurd (has_begun (ap later (sym (is_it other listed same)) ∙ waits))
+    | inr differs ↦ waits_still other differs (account.waiting other listed (sym (behind.others other listed differs) ∙ waits))
+  ]
+
+  going : (other : Line) → In other (lines asked) → GoesAlong (view_of asked new other)
+  going other listed = elim (cases_Bool (same_line (line_of other) (line_of line))) [
+    | inl same ↦ subst (λ (l : Line). GoesAlong (view_of asked new l)) (sym (is_it other listed same)) behind.goes
+    | inr differs ↦ by_stand differs (stand other) refl
+  ]
+    where
+      by_stand : IsFalse (same_line (line_of other) (line_of line)) → (s : Stand) → stand other ≡ s → GoesAlong (view_of asked new other)
+      by_stand differs Waits is = goes_idle (view_of asked new other) (turns_none (line_of other) new (waits_still other differs (account.waiting other listed is)))
+      by_stand differs Runs is = other_goes other listed differs (λ waits. no (sym is ∙ waits))
+        where
+          no : Runs ≡ Waits → ⊥
+          no e = cc
+      by_stand differs IsDone is = other_goes other listed differs (λ waits. no (sym is ∙ waits))
+        where
+          no : IsDone ≡ Waits → ⊥
+          no e = cc
+
+  over : (other : Line) → In other (lines asked) → later other ≡ IsDone → ComesToEnd (view_of asked new other)
+  over other listed done = elim (cases_Bool (same_line (line_of other) (line_of line))) [
+    | inl same ↦ subst (λ (l : Line). ComesToEnd (view_of asked new l)) (sym (is_it other listed same)) (own behind.now (ap later (sym (is_it other listed same)) ∙ done))
+    | inr differs ↦
+        let was = sym (behind.others other listed differs) ∙ done in
+        other_ends other listed differs (λ waits. no (sym waits ∙ was)) (account.over other listed was)
+  ]
+    where
+      no : Waits ≡ IsDone → ⊥
+      no e = cc
+
+      own : (later line ≡ Runs) ⊎ (later line ≡ IsDone) × ComesToEnd (view_of asked new line) → later line ≡ IsDone → ComesToEnd (view_of asked new line)
+      own (inl runs) done = absurd (not_both (sym runs ∙ done))
+        where
+          not_both : Runs ≡ IsDone → ⊥
+          not_both e = cc
+      own (inr ended) done = ended.1
+
+  in_turn : (one other : Line) → In one (lines asked) → In other (lines asked) → other.client ≡ one.client → one.number < other.number → (later other ≡ Waits) ⊎ (later one ≡ IsDone)
+  in_turn one other listed listed' client above = elim (cases_Bool (same_line (line_of other) (line_of line))) [
+    | inl same ↦
+        let it = is_it other listed' same in
+        let differs = differ one (subst (λ (l : Line). one.number < l.number) it above) in
+        inr (behind.others one listed differs ∙ may.earlier one listed (sym client ∙ ap (λ (l : Line). l.client) it) (subst (λ (l : Line). one.number < l.number) it above))
+    | inr differs' ↦ elim (cases_Bool (same_line (line_of one) (line_of line))) [
+      | inl same ↦
+          let it = is_it one listed same in
+          elim (account.in_turn line other may.among listed' (client ∙ ap (λ (l : Line). l.client) it) (subst (λ (l : Line). l.number < other.number) it above)) [
+            | inl waits ↦ inl (behind.others other listed' differs' ∙ waits)
+            | inr done ↦ absurd (unless_over done)
+          ]
+      | inr differs ↦ elim (account.in_turn one other listed listed' client above) [
+        | inl waits ↦ inl (behind.others other listed' differs' ∙ waits)
+        | inr done ↦ inr (behind.others one listed differs ∙ done)
+      ]
+    ]
+  ]
+    where
+      differ : (one : Line) → one.number < line.number → IsFalse (same_line (line_of one) (line_of line))
+      differ one low = elim (cases_Bool (same_line (line_of one) (line_of line))) [
+        | inl same ↦ (let its = eqb-true one.number line.number (and_parts (eqb one.client line.client) (eqb one.number line.number) same).1 in absurd (below one.number line.number low its))
+        | inr apart ↦ apart
+      ]
+        where
+          below : (a b : ℕ) → a < b → a ≡ b → ⊥
+          below a b lt e = omega arith
+
+  pub goes_on : Account asked new later
+  goes_on = record {
+    settings = settings_stay asked ran added account.settings;
+    bytes = bytes_stay asked ran added account.bytes follows;
+    door = door_stays asked ran added account.door follows;
+    opened = stays_open ran added account.opened;
+    nodes = nodes_stay asked ran added account.nodes follows;
+    office = office_stays_legal asked ran added account.opened account.office follows;
+    boxes = boxes_stay asked ran added account.boxes follows;
+    opens = opens_so asked ran added line may.among by stranger follows account.opens;
+    clock = clock_stays asked ran added account.clock follows;
+    clients = clients_so asked ran stand line added account may by (opening_parts asked ran account.opens).0;
+    whole_lines = as_ordered ran added (whole_order asked) account.whole_lines ordered.0;
+    asks_last = asks_so asked ran added account.asks_last ordered.1;
+    give_ups = give_ups_stay asked ran added account.give_ups follows;
+    differ = account.differ;
+    strangers = account.strangers;
+    waiting = waiting;
+    going = going;
+    over = over;
+    in_turn = in_turn;
+  }
