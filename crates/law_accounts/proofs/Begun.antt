@@ -1,5 +1,5 @@
 -- Behind its opening a run has an account in which each line waits.
-use Rattle.std.proofs.Common.{◌≡◌, ◌≤◌, ℕ, zero, suc, Bool, true, false, ◌&&◌, ◌||◌, not, List, [], ◌∷◌, ◌++◌, drop, refl, sym, ap, subst, ◌∙◌, inl, inr, eqb, leb, arith, length}
+use Rattle.std.proofs.Common.{◌≡◌, ◌≤◌, ℕ, zero, suc, Bool, true, false, ◌||◌, not, List, [], ◌∷◌, ◌++◌, drop, refl, sym, ap, subst, ◌∙◌, inl, inr, eqb, leb, arith, length}
 use Rattle.std.specs.Prelude.{IsTrue, IsFalse, None, Option, Some, if◌then◌else◌, is_some, map}
 use Rattle.std.specs.List.{fold, list_all}
 use Rattle.std.proofs.lemmas.Bool.{and_from, and_parts, eqb-true, false_from_ne_true, false≢true, le-leb, not-true, or_left, or_right, true≢false}
@@ -15,8 +15,7 @@ use Rattle.aft_model.specs.declared.office.OfficeEntry.{OfficeEntry}
 use Rattle.aft_model.specs.declared.script.Command.{Command}
 use Rattle.aft_model.specs.declared.script.Line.{Line}
 use Rattle.aft_model.specs.declared.script.Order.{Order}
-use Rattle.aft_model.specs.declared.trace.Trace.{Trace}
-use Rattle.aft_model.proofs.Histories.{In, all_append, all_at, in_append, in_back, in_front}
+use Rattle.aft_model.proofs.Histories.{In, all_append, all_at, in_append, in_front}
 use Rattle.aft_model.proofs.Lists.{all_from, in_snoc, map_in}
 use Rattle.aft_model.specs.Boxes.{is_legal_box}
 use Rattle.aft_model.specs.History.{each_after}
@@ -25,17 +24,15 @@ use Rattle.aft_model.specs.Opening.{opening}
 use Rattle.aft_model.specs.ScanRun.{same_line}
 use Rattle.aft_lines.specs.Advance.{leads_to}
 use Rattle.aft_lines.specs.Asked.{Asked, Ran}
-use Rattle.aft_lines.specs.CausesAttempts.{speaks_of_attempt}
 use Rattle.aft_lines.specs.FinishedText.{line_of}
-use Rattle.aft_lines.specs.LegalTrace.{act_at, are_asks, begin_behind_opening, clients_in_order, give_ups_backed, has_seen_earlier, has_seen_opening, in_rank_order, is_after_own, is_backed_at, is_of_lines, makers, may_be_asked, named_node, opens_as_asked, opens_first, ran_as_ordered, ran_whole, rank, read_clock, session_client, stands_at, turn_of, turn_words}
+use Rattle.aft_lines.specs.LegalTrace.{act_at, are_asks, begin_behind_opening, clients_in_order, give_ups_backed, has_seen_earlier, has_seen_opening, is_after_own, is_backed_at, is_of_lines, makers, may_be_asked, named_node, opens_as_asked, opens_first, ran_as_ordered, ran_whole, rank, read_clock, session_client, stands_at, turn_of, turn_words}
 use Rattle.aft_lines.specs.LineView.{LineView, ends_of}
 use Rattle.aft_lines.specs.Lines.{background, background_lines, lines, node_numbers, numbered, whole_order}
 use Rattle.aft_lines.specs.Makes.{makes}
-use Rattle.aft_lines.specs.OpeningCourse.{opening_course}
 use Rattle.aft_lines.specs.RunsSoFar.{is_stopped_rightly}
 use Rattle.aft_lines.specs.Turns.{AtDoor, AtNode, AtOffice, Turn, door_turns, node_turns, nodes_turns, office_turns, turns, with_turn}
 use Rattle.aft_lines.specs.Views.{view_of}
-use Rattle.law_claims.proofs.Scenes.{by_itself, same_by}
+use Rattle.law_claims.proofs.Scenes.{same_by}
 use Rattle.law_held.proofs.Numbered.{numbered_differ}
 use Rattle.law_held.specs.Desk.{is_script}
 use Rattle.law_rounds.proofs.Openings.{whole_opening}

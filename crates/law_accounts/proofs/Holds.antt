@@ -1,10 +1,9 @@
 -- What a client holds before its first line, and before its next one.
-use Rattle.std.proofs.Common.{◌≡◌, ◌≤◌, ◌<◌, ℕ, suc, Bool, true, false, ◌&&◌, ◌||◌, not, List, [], ◌∷◌, ◌++◌, refl, sym, ap, subst, ◌∙◌, inl, inr, eqb, ltb, arith, append-nil, append_assoc}
-use Rattle.std.specs.Prelude.{IsTrue, IsFalse, None, Option, Some, filter, if◌then◌else◌, is_some, length}
+use Rattle.std.proofs.Common.{◌≡◌, ◌≤◌, ◌<◌, ℕ, suc, Bool, true, false, ◌&&◌, ◌||◌, not, List, [], ◌∷◌, ◌++◌, refl, sym, ap, subst, ◌∙◌, inl, inr, eqb, ltb, arith, append-nil}
+use Rattle.std.specs.Prelude.{IsTrue, None, Option, Some, filter, if◌then◌else◌, is_some, length}
 use Rattle.std.specs.List.{last_or, list_all}
 use Rattle.std.proofs.lemmas.Bool.{and_from, and_parts, eq-eqb, eqb-true, false_from_ne_true, lt-ltb, ltb-true, true≢false}
 use Rattle.std.proofs.lemmas.List.Elements.{filter-append}
-use Rattle.aft_model.specs.declared.caller.Hold.{Hold}
 use Rattle.aft_model.specs.declared.script.Line.{Line}
 use Rattle.aft_model.specs.declared.script.Command.{Command}
 use Rattle.aft_model.specs.declared.script.Order.{Order}
@@ -13,7 +12,7 @@ use Rattle.aft_model.specs.History.{each_after}
 use Rattle.aft_model.proofs.Histories.{In, all_at, each_after_split, in_append, in_back, in_front}
 use Rattle.aft_lines.specs.Asked.{Asked}
 use Rattle.aft_lines.specs.LegalTrace.{are_asks, is_numbered_behind, may_be_asked}
-use Rattle.aft_lines.specs.Lines.{background, background_lines, begins, earlier_lines, hold_after, hold_before, last_begin, lines, numbered}
+use Rattle.aft_lines.specs.Lines.{background, background_lines, begins, earlier_lines, hold_after, hold_before, lines, numbered}
 use Rattle.aft_lines.specs.Views.{line_before}
 use Rattle.law_held.proofs.Placed.{each_joined}
 use Rattle.law_held.specs.Desk.{is_script}

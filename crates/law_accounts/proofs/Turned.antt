@@ -1,27 +1,37 @@
 -- The turn that a line makes by an entry stands behind its earlier ones.
-use Rattle.std.proofs.Common.{◌≡◌, ◌≤◌, ◌<◌, ℕ, zero, suc, ◌+◌, Bool, true, false, ◌&&◌, ◌||◌, not, List, [], ◌∷◌, ◌++◌, refl, sym, ap, subst, ◌∙◌, inl, inr, eqb, leb, ltb, arith, append-nil, append_assoc, length}
-use Rattle.std.specs.Prelude.{IsTrue, IsFalse, if◌then◌else◌, is_none, filter}
+use Rattle.std.proofs.Common.{◌≡◌, ◌≤◌, ◌<◌, ℕ, suc, ◌+◌, Bool, true, false, ◌||◌, not, List, [], ◌∷◌, ◌++◌, refl, sym, ap, subst, ◌∙◌, inl, inr, eqb, leb, ltb, arith, append-nil, append_assoc, length}
+use Rattle.std.specs.Prelude.{IsTrue, IsFalse, if◌then◌else◌, is_none}
 use Rattle.std.specs.List.{fold, list_all}
-use Rattle.std.proofs.lemmas.Bool.{and_from, and_parts, cases_Bool, eq-eqb, eqb-false, eqb-true, false≢true, leb-true, le-leb, ltb-true, ne_eqb, or_cases, or_left, or_right, not-true, true≢false}
+use Rattle.std.proofs.lemmas.Bool.{and_from, and_parts, cases_Bool, eqb-false, eqb-true, false≢true, leb-true, le-leb, ltb-true, ne_eqb, or_cases, not-true, true≢false}
 use Rattle.std.proofs.lemmas.List.Elements.{filter-append}
+use Rattle.aft_id.specs.declared.txn_id.TxnId.{TxnId}
 use Rattle.aft_model.specs.declared.caller.By.{By}
 use Rattle.aft_model.specs.declared.door.DoorEntry.{DoorEntry}
+use Rattle.aft_model.specs.declared.node.NodeAct.{NodeAct}
+use Rattle.aft_model.specs.declared.node.NodeAct.TheVariants as node_acts
 use Rattle.aft_model.specs.declared.node.NodeEntry.{NodeEntry}
 use Rattle.aft_model.specs.declared.office.OfficeEntry.{OfficeEntry}
+use Rattle.aft_model.specs.declared.script.Command.{Command}
+use Rattle.aft_model.specs.declared.script.Command.TheVariants as commands
 use Rattle.aft_model.specs.declared.trace.Trace.{Trace}
 use Rattle.aft_model.proofs.Histories.{In, all_at, in_append, in_back, in_front}
-use Rattle.aft_model.proofs.Lists.{all_from, in_snoc}
+use Rattle.aft_model.proofs.Lists.{all_from}
 use Rattle.aft_model.specs.ScanRun.{same_line}
 use Rattle.aft_lines.specs.Asked.{Ran}
-use Rattle.aft_lines.specs.Turns.{AtDoor, AtNode, AtOffice, Turn, door_turns, front_in, given_in, moment, node_turns, nodes_turns, office_turns, turns, with_turn}
+use Rattle.aft_lines.specs.CausesRounds.{is_collect}
+use Rattle.aft_lines.specs.Makes.{makes, makes_at_node}
+use Rattle.aft_lines.specs.Turns.{AtDoor, AtNode, AtOffice, Turn, door_turns, front_in, given_by, given_in, moment, node_turns, nodes_turns, office_turns, turns, with_turn}
 use Rattle.law_claims.proofs.Scenes.{by_itself}
 use Rattle.law_runs.proofs.Members.{in_turns, turns_in}
+use Rattle.law_runs.proofs.Own.{tied}
+use Rattle.law_runs.proofs.Walks.{stands_in}
 use Rattle.law_steps.specs.OneList.{entries_of}
 use Rattle.law_turns.proofs.Lists.{filter_none}
 use Rattle.law_turns.proofs.Sorting.{alike, at_moment, elsewhere, here, sorted_ascends, sorted_stable}
-use Rattle.law_turns.specs.Order.{give_nothing_up, is_at_door, is_at_node, is_at_office, moments_ascend, same_list, tie_in_one_list}
+use Rattle.law_turns.specs.Order.{give_nothing_up, is_at_door, is_at_node, moments_ascend, same_list, tie_in_one_list}
+use Rattle.law_accounts.proofs.Lists.{all_so}
 use Rattle.law_accounts.specs.Adding.{AddsAtBox, AddsAtDoor, AddsAtNode, AddsAtOffice, Added, maker_of, numbered_in, with_added, with_entry_in}
-use Rattle.law_accounts.specs.Turned.{comes_behind, has_node, is_at_node_or_door, is_past, turn_by, turned_by}
+use Rattle.law_accounts.specs.Turned.{comes_after, has_node, is_at_node_or_door, is_past, turned_by}
 
 -- ---- one more in its list
 
@@ -241,24 +251,31 @@ turns_turned ran (AddsAtBox box entry) has up ties quiet = sym (append-nil (turn
 
 -- ---- at one node and the door
 
-module _ (node : ℕ) where
-  -- turns of one moment stand in one list there
-  tied : (one other : Turn) → IsTrue (is_at_node_or_door node one) → IsTrue (is_at_node_or_door node other) → IsTrue (not (eqb (moment one) (moment other)) || same_list one other)
-  tied (AtDoor place act) (AtDoor place' act') here' there = or_right _ _ refl
-  tied (AtDoor place act) (AtNode at before entry) here' there =
-      or_left _ _ (ap not (ne_eqb (place + place + 1) (entry.front + entry.front) (λ same. omega arith)))
-  tied (AtNode at before entry) (AtDoor place act) here' there =
-      or_left _ _ (ap not (ne_eqb (entry.front + entry.front) (place + place + 1) (λ same. omega arith)))
-  tied (AtNode at before entry) (AtNode at' before' entry') here' there =
-      or_right _ _ (eq-eqb at' at (eqb-true at' node there ∙ sym (eqb-true at node here')))
-  tied (AtOffice before entry) other here' there = absurd (false≢true here')
-  tied one (AtOffice before entry) here' there = absurd (false≢true there)
+stands : (node : ℕ) (turn : Turn) → IsTrue (is_at_node_or_door node turn) → IsTrue (stands_in node turn)
+stands node (AtDoor place act) is = is
+stands node (AtNode at before entry) is = is
+stands node (AtOffice before entry) is = is
 
-  pub ties_there : (line : List Turn) → IsTrue (list_all (is_at_node_or_door node) line) → IsTrue (tie_in_one_list line)
-  ties_there line all =
-      all_from (λ (turn : Turn). list_all (λ (other : Turn). not (eqb (moment turn) (moment other)) || same_list turn other) line) line (λ turn among.
-      all_from (λ (other : Turn). not (eqb (moment turn) (moment other)) || same_list turn other) line (λ other among'.
-      tied turn other (all_at (is_at_node_or_door node) turn line among all) (all_at (is_at_node_or_door node) other line among' all)))
+-- turns of one moment stand in one list there
+ties_there : (node : ℕ) (line : List Turn) → IsTrue (list_all (is_at_node_or_door node) line) → IsTrue (tie_in_one_list line)
+ties_there node line all =
+    all_from (λ (turn : Turn). list_all (λ (other : Turn). not (eqb (moment turn) (moment other)) || same_list turn other) line) line (λ turn among.
+    all_from (λ (other : Turn). not (eqb (moment turn) (moment other)) || same_list turn other) line (λ other among'.
+    tied node turn other (stands node turn (all_at (is_at_node_or_door node) turn line among all)) (stands node other (all_at (is_at_node_or_door node) other line among' all))))
+
+-- a line that isn't a collection gives nothing up
+gives_none : (command : Command) → IsFalse (is_collect command) → (turn : Turn) → IsTrue (makes command turn) → IsTrue (is_none (given_in turn))
+gives_none command other (AtDoor place act) made = refl
+gives_none command other (AtOffice before entry) made = refl
+gives_none command other (AtNode node before entry) made = by_act entry.act made
+  where
+    never : (c : Command) → IsFalse (is_collect c) → (id : TxnId) → IsTrue (makes_at_node c (node_acts.GiveUp id)) → ⊥
+    never commands.Collect other' id is = true≢false other'
+    never c other' id is = false≢true is
+
+    by_act : (act : NodeAct) → IsTrue (makes_at_node command act) → IsTrue (is_none (given_by act))
+    by_act (node_acts.GiveUp id) is = absurd (never command other id is)
+    by_act act is = refl
 
 -- a turn behind others none of which is of a later moment
 ascends_more : (line : List Turn) (turn : Turn) → IsTrue (moments_ascend line) → ((x : Turn) → In x line → moment x ≤ moment turn) → IsTrue (moments_ascend (line ++ turn ∷ []))
@@ -300,7 +317,7 @@ low_moment last (AtNode node before entry) low front = (let le = leb-true entry.
 low_moment last (AtOffice before entry) low front = (let le = leb-true entry.front last front in omega arith)
 
 -- no moment falls
-climbs : (ran : Ran) (added : Added) → IsTrue (comes_behind ran added (turns (maker_of added) ran.trace)) → IsTrue (moments_ascend (turned_by ran added))
+climbs : (ran : Ran) (added : Added) → IsTrue (comes_after ran added (turns (maker_of added) ran.trace)) → IsTrue (moments_ascend (turned_by ran added))
 climbs ran (AddsAtDoor entry) behind =
     ascends_more (turns entry.by ran.trace) (AtDoor (length ran.trace.door) entry.act) (sorted_ascends [] (entries_of entry.by ran.trace) refl)
     (λ x among. low_moment (length ran.trace.door) x (low_turns entry.by ran.trace x among) (all_at (λ (t : Turn). leb (front_in t) (length ran.trace.door)) x (turns entry.by ran.trace) among behind))
@@ -313,6 +330,7 @@ climbs ran (AddsAtOffice entry) behind =
 climbs ran (AddsAtBox box entry) behind =
     subst (λ (l : List Turn). IsTrue (moments_ascend l)) (sym (append-nil (turns entry.by ran.trace))) (sorted_ascends [] (entries_of entry.by ran.trace) refl)
 
-pub turned_there : (ran : Ran) (added : Added) (node : ℕ) → IsTrue (has_node ran added) → IsTrue (list_all (is_at_node_or_door node) (turned_by ran added)) → IsTrue (comes_behind ran added (turns (maker_of added) ran.trace)) → IsTrue (give_nothing_up (turned_by ran added))
-    → turns (maker_of added) (with_added added ran).trace ≡ turned_by ran added
-turned_there ran added node has at behind quiet = turns_turned ran added has (climbs ran added behind) (ties_there node (turned_by ran added) at) quiet
+pub turned_there : (command : Command) (ran : Ran) (added : Added) (node : ℕ) → IsFalse (is_collect command) → IsTrue (has_node ran added) → IsTrue (list_all (makes command) (turned_by ran added)) → IsTrue (list_all (is_at_node_or_door node) (turned_by ran added))
+    → IsTrue (comes_after ran added (turns (maker_of added) ran.trace)) → turns (maker_of added) (with_added added ran).trace ≡ turned_by ran added
+turned_there command ran added node other has made at behind =
+    turns_turned ran added has (climbs ran added behind) (ties_there node (turned_by ran added) at) (all_so (makes command) (λ (turn : Turn). is_none (given_in turn)) (gives_none command other) (turned_by ran added) made)

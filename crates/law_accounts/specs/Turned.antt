@@ -34,9 +34,9 @@ is_past front (AtDoor place act) = nat_lt place front
 is_past front (AtNode node before entry) = nat_le entry.front front
 is_past front (AtOffice before entry) = nat_le entry.front front
 
--- whether what is added comes behind some turns: its front is past each, and at the door none had seen more than there is
-abbrev pub comes_behind : Ran → Added → List Turn → Bool
-comes_behind ran (AddsAtDoor entry) line = list_all (λ turn. nat_le (front_in turn) (length ran.trace.door)) line
-comes_behind ran (AddsAtNode node entry) line = list_all (is_past entry.front) line
-comes_behind ran (AddsAtOffice entry) line = list_all (is_past entry.front) line
-comes_behind ran (AddsAtBox box entry) line = true
+-- whether what is added comes after some turns: its front is past each, and at the door none had seen more than there is
+abbrev pub comes_after : Ran → Added → List Turn → Bool
+comes_after ran (AddsAtDoor entry) line = list_all (λ turn. nat_le (front_in turn) (length ran.trace.door)) line
+comes_after ran (AddsAtNode node entry) line = list_all (is_past entry.front) line
+comes_after ran (AddsAtOffice entry) line = list_all (is_past entry.front) line
+comes_after ran (AddsAtBox box entry) line = true

@@ -1,14 +1,17 @@
 //! Laws of accounts, as calls that do nothing and promise them.
 
-ghost use Rattle.std.specs.Prelude.{◌≡◌, None, Some, IsTrue, if◌then◌else◌, ℕ};
+ghost use Rattle.std.specs.Prelude.{◌≡◌, None, Some, IsFalse, IsTrue, if◌then◌else◌, ℕ};
 ghost use Rattle.std.specs.List.{list_all};
 ghost use Rattle.aft_model.proofs.Histories.{In};
+ghost use Rattle.aft_model.specs.declared.script.Command.{Command};
 ghost use Rattle.aft_model.specs.declared.script.Line.{Line};
 ghost use Rattle.aft_model.specs.declared.trace.Trace.{Trace};
 ghost use Rattle.aft_lines.specs.Asked.{Asked, Ran};
+ghost use Rattle.aft_lines.specs.CausesRounds.{is_collect};
 ghost use Rattle.aft_lines.specs.FinishedText.{line_of};
 ghost use Rattle.aft_lines.specs.LegalTrace.{LegalTrace, are_asks};
 ghost use Rattle.aft_lines.specs.Lines.{begins, hold_after, hold_before, lines};
+ghost use Rattle.aft_lines.specs.Makes.{makes};
 ghost use Rattle.aft_lines.specs.RunsSoFar.{RunsSoFar};
 ghost use Rattle.aft_lines.specs.Turns.{turns};
 ghost use Rattle.aft_lines.specs.Views.{line_before, view_of};
@@ -18,7 +21,7 @@ ghost use Rattle.law_accounts.specs.Account.{Account, IsDone, MayGoOn, NoneColle
 ghost use Rattle.law_accounts.specs.Adding.{Added, ComesAsOrdered, Follows, maker_of, with_added};
 ghost use Rattle.law_accounts.specs.Next.{ComesNext, IsFirst};
 ghost use Rattle.law_accounts.specs.Opened.{Opened};
-ghost use Rattle.law_accounts.specs.Turned.{comes_behind, has_node, is_at_node_or_door, turned_by};
+ghost use Rattle.law_accounts.specs.Turned.{comes_after, has_node, is_at_node_or_door, turned_by};
 
 /// A run that has an account is a run so far.
 pub fn accounts_are_runs()
@@ -36,11 +39,11 @@ pub fn accounts_end()
 {}
 
 /// The turn that a line makes by an entry stands behind its earlier ones, if no moment falls, turns of one moment stand in one
-/// list and nothing is given up; so it does where the line keeps to one node and the door, and each front is past what the
-/// line made before.
+/// list and nothing is given up. So it does for any command but a collection, where its line keeps to one node and the door, a
+/// front at the node is past each earlier turn, and none at the door had seen more than there is.
 pub fn turns_follow()
     ensures in_order { (ran : Ran) (added : Added) → IsTrue (has_node ran added) → IsTrue (moments_ascend (turned_by ran added)) → IsTrue (tie_in_one_list (turned_by ran added)) → IsTrue (give_nothing_up (turned_by ran added)) → turns (maker_of added) (with_added added ran).trace ≡ turned_by ran added }
-    ensures at_one_node { (ran : Ran) (added : Added) (node : ℕ) → IsTrue (has_node ran added) → IsTrue (list_all (is_at_node_or_door node) (turned_by ran added)) → IsTrue (comes_behind ran added (turns (maker_of added) ran.trace)) → IsTrue (give_nothing_up (turned_by ran added)) → turns (maker_of added) (with_added added ran).trace ≡ turned_by ran added }
+    ensures at_one_node { (command : Command) (ran : Ran) (added : Added) (node : ℕ) → IsFalse (is_collect command) → IsTrue (has_node ran added) → IsTrue (list_all (makes command) (turned_by ran added)) → IsTrue (list_all (is_at_node_or_door node) (turned_by ran added)) → IsTrue (comes_after ran added (turns (maker_of added) ran.trace)) → turns (maker_of added) (with_added added ran).trace ≡ turned_by ran added }
 {}
 
 /// A client holds node 1 and no attempt before its first line; before each next one it holds what the line before gave, if that

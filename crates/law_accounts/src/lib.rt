@@ -7,4 +7,6 @@
 
 mod laws;
 
-pub use laws::{accounts_are_runs, accounts_begin, accounts_end, accounts_go_on, holds_follow, turns_follow};
+pub use laws::{
+    accounts_are_runs, accounts_begin, accounts_end, accounts_go_on, holds_follow, turns_follow,
+};
