@@ -33,7 +33,9 @@ use Rattle.aft_lines.specs.Views.{view_of}
 use Rattle.law_grows.proofs.Positions.{end_within, positions_over}
 use Rattle.law_grows.specs.Reach.{is_within}
 use Rattle.law_held.proofs.DeskHeld.{among_itself}
+use Rattle.law_held.specs.Desk.{LinesDiffer}
 use Rattle.law_runs.specs.Runs.{line_among}
+use Rattle.law_accounts.proofs.Idle.{turns_none}
 use Rattle.law_accounts.proofs.Lists.{all_more}
 use Rattle.law_accounts.proofs.Orders.{as_ordered, opening_parts, asks_so, clients_so, makers_so, opens_so}
 use Rattle.law_accounts.proofs.Others.{none_taken}
@@ -45,45 +47,7 @@ use Rattle.law_accounts.specs.Adding.{AddsAtBox, AddsAtDoor, AddsAtNode, AddsAtO
 
 -- ---- a line that has made nothing
 
--- it has no turn
-module _ (by : By) where
-  abbrev strange : By → Bool
-  strange other = not (same_line by other)
-
-  door_none : (place : ℕ) (door : List DoorEntry) → IsTrue (list_all strange (map (λ (e : DoorEntry). e.by) door)) → door_turns by place door ≡ []
-  door_none place [] none = refl
-  door_none place (entry ∷ door) none =
-      let parts = and_parts (strange entry.by) (list_all strange (map (λ (e : DoorEntry). e.by) door)) none in
-      none_taken (same_line by entry.by) _ (door_turns by (suc place) door) (not-true (same_line by entry.by) parts.0) ∙ door_none (suc place) door parts.1
-
-  node_none : (node : ℕ) (before history : List NodeEntry) → IsTrue (list_all strange (map (λ (e : NodeEntry). e.by) history)) → node_turns by node before history ≡ []
-  node_none node before [] none = refl
-  node_none node before (entry ∷ history) none =
-      let parts = and_parts (strange entry.by) (list_all strange (map (λ (e : NodeEntry). e.by) history)) none in
-      none_taken (same_line by entry.by) _ (node_turns by node (before ++ entry ∷ []) history) (not-true (same_line by entry.by) parts.0) ∙ node_none node (before ++ entry ∷ []) history parts.1
-
-  nodes_none : (first : ℕ) (nodes : List (List NodeEntry)) → IsTrue (list_all (list_all strange) (map (map (λ (e : NodeEntry). e.by)) nodes)) → nodes_turns by first nodes ≡ []
-  nodes_none first [] none = refl
-  nodes_none first (history ∷ nodes) none =
-      let parts = and_parts (list_all strange (map (λ (e : NodeEntry). e.by) history)) (list_all (list_all strange) (map (map (λ (e : NodeEntry). e.by)) nodes)) none in
-      ap (λ (l : List Turn). l ++ nodes_turns by (suc first) nodes) (node_none first [] history parts.0) ∙ nodes_none (suc first) nodes parts.1
-
-  office_none : (before office : List OfficeEntry) → IsTrue (list_all strange (map (λ (e : OfficeEntry). e.by) office)) → office_turns by before office ≡ []
-  office_none before [] none = refl
-  office_none before (entry ∷ office) none =
-      let parts = and_parts (strange entry.by) (list_all strange (map (λ (e : OfficeEntry). e.by) office)) none in
-      none_taken (same_line by entry.by) _ (office_turns by (before ++ entry ∷ []) office) (not-true (same_line by entry.by) parts.0) ∙ office_none (before ++ entry ∷ []) office parts.1
-
-  turns_none : (ran : Ran) → IsTrue (list_all (list_all strange) (makers ran)) → turns by ran.trace ≡ []
-  turns_none ran none =
-      let first = and_parts (list_all strange (map (λ (e : DoorEntry). e.by) ran.trace.door)) _ none in
-      let second = and_parts (list_all strange (map (λ (e : OfficeEntry). e.by) ran.trace.office)) _ first.1 in
-      let third = and_parts (list_all (list_all strange) (map (map (λ (e : NodeEntry). e.by)) ran.trace.nodes)) (list_all (list_all strange) (map (map (λ (e : MailEntry). e.by)) ran.mail)) (sym (list_all-append (list_all strange) (map (map (λ (e : NodeEntry). e.by)) ran.trace.nodes) (map (map (λ (e : MailEntry). e.by)) ran.mail)) ∙ second.1) in
-      ap (λ (l : List Turn). fold with_turn [] (l ++ door_turns by 0 ran.trace.door ++ office_turns by [] ran.trace.office)) (nodes_none 1 ran.trace.nodes third.0)
-      ∙ ap (λ (l : List Turn). fold with_turn [] (l ++ office_turns by [] ran.trace.office)) (door_none 0 ran.trace.door first.0)
-      ∙ ap (λ (l : List Turn). fold with_turn [] l) (office_none [] ran.trace.office second.0)
-
--- so it goes along
+-- it goes along
 pub goes_idle : (view : LineView) → view.turns ≡ [] → GoesAlong view
 goes_idle view none = record {
   leads = subst (λ (l : List Turn). IsTrue (is_some (leads_to view.command (node_numbers view.settings) (ends_of view) l))) (sym none) refl;
@@ -93,6 +57,20 @@ goes_idle view none = record {
   places = subst (λ (l : List Turn). IsTrue (list_all (stands_at (named_node view.command view.hold)) l)) (sym none) refl;
   speaks = subst (λ (l : List Turn). IsTrue (not (speaks_of_attempt view.command) || list_all (turn_of view.hold.attempt) l)) (sym none) (or_right _ _ refl);
 }
+
+-- ---- lines of a run
+
+-- who is the same line is this one
+pub same_is : (asked : Asked) → LinesDiffer asked → (other line : Line) → In other (lines asked) → In line (lines asked) → IsTrue (same_line (line_of other) (line_of line)) → other ≡ line
+same_is asked differ other line listed among same = some_is other line (sym (among_itself [] (lines asked) differ other listed) ∙ ap (λ (b : By). line_among b (lines asked)) own ∙ among_itself [] (lines asked) differ line among)
+  where
+    own : line_of other ≡ line_of line
+    own =
+        let parts = and_parts (eqb other.client line.client) (eqb other.number line.number) same in
+        ap (λ c. record { client = c; line = other.number }) (eqb-true other.client line.client parts.0) ∙ ap (λ n. record { client = line.client; line = n }) (eqb-true other.number line.number parts.1)
+
+    some_is : (a b : Line) → Some a ≡ Some b → a ≡ b
+    some_is a b e = cc
 
 -- ---- a line beside other nodes
 
@@ -146,15 +124,7 @@ module _ (asked : Asked) (ran : Ran) (stand later : Line → Stand) (line : Line
 
   -- who is the same line is this one
   is_it : (other : Line) → In other (lines asked) → IsTrue (same_line (line_of other) (line_of line)) → other ≡ line
-  is_it other listed same = some_is other line (sym (among_itself [] (lines asked) account.differ other listed) ∙ ap (λ (b : By). line_among b (lines asked)) own ∙ among_itself [] (lines asked) account.differ line may.among)
-    where
-      own : line_of other ≡ line_of line
-      own =
-          let parts = and_parts (eqb other.client line.client) (eqb other.number line.number) same in
-          ap (λ c. record { client = c; line = other.number }) (eqb-true other.client line.client parts.0) ∙ ap (λ n. record { client = line.client; line = n }) (eqb-true other.number line.number parts.1)
-
-      some_is : (a b : Line) → Some a ≡ Some b → a ≡ b
-      some_is a b e = cc
+  is_it other listed same = same_is asked account.differ other line listed may.among same
 
   its_maker : (other : Line) → IsFalse (same_line (line_of other) (line_of line)) → IsFalse (same_line (line_of other) (maker_of added))
   its_maker other differs = subst (λ (b : By). IsFalse (same_line (line_of other) b)) (sym by) differs

@@ -1,3 +1,5 @@
 pub mod Seeing
 pub mod Rights
+pub mod Along
 pub mod Node
+pub mod Door

@@ -1,8 +1,8 @@
 -- A machine's turn at its node keeps the account.
 use Rattle.std.proofs.Common.{◌≡◌, ◌≤◌, ◌<◌, ℕ, Bool, true, false, ◌||◌, not, List, [], ◌∷◌, ◌++◌, take, drop, refl, sym, subst, ap, ◌∙◌, inl, inr, arith, eqb, append-nil}
-use Rattle.std.specs.Prelude.{IsFalse, IsTrue, None, Option, Some, is_none, if◌then◌else◌, length, max, nat_le, nat_lt}
+use Rattle.std.specs.Prelude.{IsFalse, IsTrue, None, Option, Some, if◌then◌else◌, length, max, nat_le, nat_lt}
 use Rattle.std.specs.List.{flat_map, fold, last_or, list_all}
-use Rattle.std.proofs.lemmas.Bool.{and_from, and_parts, cases_Bool, eqb-true, le-leb, or_left, or_right}
+use Rattle.std.proofs.lemmas.Bool.{and_from, and_parts, cases_Bool, eqb-true, le-leb, or_left, or_right, true≢false}
 use Rattle.std.proofs.lemmas.List.Concat.{flat_map-append}
 use Rattle.std.proofs.lemmas.List.Folds.{list_all-append}
 use Rattle.aft_model.specs.declared.caller.By.{By}
@@ -26,7 +26,7 @@ use Rattle.aft_lines.specs.LineView.{LineView, NodeTurn, front_of, last_front, n
 use Rattle.aft_lines.specs.Lines.{hold_before, lines, node_numbers, whole_order}
 use Rattle.aft_lines.specs.Makes.{makes}
 use Rattle.aft_lines.specs.RunsSoFar.{is_stopped_rightly, position_of}
-use Rattle.aft_lines.specs.Turns.{AtDoor, AtNode, AtOffice, Turn, end_front, front_in, given_in, turns}
+use Rattle.aft_lines.specs.Turns.{AtDoor, AtNode, AtOffice, Turn, end_front, front_in, turns}
 use Rattle.aft_lines.specs.Views.{view_of}
 use Rattle.aft_turns.specs.Stands.{EndsRightly, GoesRightly, HasLooked, RanSo, is_right, sees}
 use Rattle.aft_turns.specs.Steps.{entry_of}
@@ -35,17 +35,17 @@ use Rattle.law_accounts.proofs.GoesOn.{goes_on}
 use Rattle.law_accounts.proofs.Lists.{all_so}
 use Rattle.law_accounts.proofs.Orders.{makers_so}
 use Rattle.law_accounts.proofs.Turned.{turned_there}
-use Rattle.law_accounts.proofs.Views.{hold_same}
 use Rattle.law_accounts.proofs.Within.{turns_within}
 use Rattle.law_accounts.specs.Account.{Account, ComesToEnd, GoesAlong, IsDone, NoneCollects, Stand, beside}
 use Rattle.law_accounts.specs.Adding.{AddsAtNode, Added, ComesAsOrdered, Follows, comes_in, maker_of, numbered_in, ranks_last, with_added}
-use Rattle.law_accounts.specs.Turned.{comes_behind, has_node, is_at_node_or_door, is_past, turn_by, turned_by}
+use Rattle.law_accounts.specs.Turned.{is_at_node_or_door, is_past, turn_by, turned_by}
 use Rattle.law_claims.proofs.Scenes.{by_itself}
 use Rattle.law_grows.proofs.Positions.{end_within}
 use Rattle.law_grows.specs.Reach.{is_within}
 use Rattle.law_driver.specs.Driven.{AllAtOneNode, Driven, IsNode, Promises, RanksLast, is_at_one_node, ranks_in, reads_clock}
 use Rattle.law_driver.specs.Kept.{StandsNow, behind_node, with_node, with_stand}
-use Rattle.law_driver.proofs.Rights.{no_collection, node_of, quiet_mail, right_node, right_parts, right_place, right_quiet}
+use Rattle.law_driver.proofs.Along.{goes_along, own_hold_same}
+use Rattle.law_driver.proofs.Rights.{no_collection, node_of, quiet_mail, right_parts, right_place}
 use Rattle.law_driver.proofs.Seeing.{fold_last, last_is, sees_node}
 
 -- ---- orders
@@ -149,10 +149,10 @@ module _ (asked : Asked) (ran : Ran) (stand : Line → Stand) (line : Line) (hol
 
   turned : turns (line_of line) new.trace ≡ next.turns
   turned =
-      turned_there ran added (node_of line.order hold) is_node.there
+      turned_there line.order ran added (node_of line.order hold) (no_collection line.order driven.kind) is_node.there
+      (subst (λ (l : List Turn). IsTrue (list_all (makes line.order) l)) (sym its_turns) (all_so (is_right line.order hold) (makes line.order) (λ turn is. (right_parts line.order hold turn is).0) next.turns right_turns))
       (subst (λ (l : List Turn). IsTrue (list_all (is_at_node_or_door (node_of line.order hold)) l)) (sym its_turns) (all_so (is_right line.order hold) (is_at_node_or_door (node_of line.order hold)) (λ turn is. right_place line.order hold turn driven.kind is) next.turns right_turns))
       (all_so (is_within (length door)) (is_past entry.front) past (turns (line_of line) ran.trace) within)
-      (subst (λ (l : List Turn). IsTrue (list_all (λ (t : Turn). is_none (given_in t)) l)) (sym its_turns) (all_so (is_right line.order hold) (λ (t : Turn). is_none (given_in t)) (λ turn is. right_quiet line.order hold turn driven.kind is) next.turns right_turns))
       ∙ its_turns
 
   -- ---- the line's view
@@ -161,16 +161,7 @@ module _ (asked : Asked) (ran : Ran) (stand : Line → Stand) (line : Line) (hol
   stranger = driven.account.strangers line driven.may.among
 
   held_same : hold_before (lines asked) new.trace line ≡ hold_before (lines asked) ran.trace line
-  held_same = hold_same asked ran added line (λ other client below. not_it other below) stranger
-    where
-      not_it : (other : Line) → other.number < line.number → IsFalse (same_line (line_of other) (line_of line))
-      not_it other below = elim (cases_Bool (same_line (line_of other) (line_of line))) [
-        | inl same ↦ (let its = eqb-true other.number line.number (and_parts (eqb other.client line.client) (eqb other.number line.number) same).1 in absurd (less other.number line.number below its))
-        | inr apart ↦ apart
-      ]
-        where
-          less : (a b : ℕ) → a < b → a ≡ b → ⊥
-          less a b lt e = omega arith
+  held_same = own_hold_same asked ran line added refl stranger
 
   abbrev view : LineView
   view = view_of asked new line
@@ -213,28 +204,10 @@ module _ (asked : Asked) (ran : Ran) (stand : Line → Stand) (line : Line) (hol
       by_order (Some order) so = (so, has_seen_all order door entry.front (line_of line) front_is)
 
   along : GoesAlong view
-  along =
-      let each = subst (λ (h : Hold). IsTrue (list_all (is_right line.order h) view.turns)) refl goes.right in
-      record {
-        leads = goes.leads;
-        stopped = ?;
-        makes = all_so (is_right line.order view.hold) (makes line.order) (λ turn is. (right_parts line.order view.hold turn is).0) view.turns each;
-        words = all_so (is_right line.order view.hold) (turn_words line.order) (λ turn is. (right_parts line.order view.hold turn is).1) view.turns each;
-        places = all_so (is_right line.order view.hold) (stands_at (named_node line.order view.hold)) (λ turn is. (right_parts line.order view.hold turn is).2) view.turns each;
-        speaks = speaks_all each;
-      }
-    where
-      speaks_all : IsTrue (list_all (is_right line.order view.hold) view.turns) → IsTrue (not (speaks_of_attempt line.order) || list_all (turn_of view.hold.attempt) view.turns)
-      speaks_all each = elim (cases_Bool (speaks_of_attempt line.order)) [
-        | inl speaks ↦ or_right _ _ (all_so (is_right line.order view.hold) (turn_of view.hold.attempt) (λ turn is. spoken turn speaks (right_parts line.order view.hold turn is).3) view.turns each)
-        | inr silent ↦ or_left _ _ (ap not silent)
-      ]
-        where
-          spoken : (turn : Turn) → speaks_of_attempt line.order ≡ true → IsTrue (not (speaks_of_attempt line.order) || turn_of view.hold.attempt turn) → IsTrue (turn_of view.hold.attempt turn)
-          spoken turn speaks is = subst (λ (b : Bool). IsTrue (not b || turn_of view.hold.attempt turn)) speaks is
+  along = goes_along view goes ?
 
   none_collects : NoneCollects asked stand added
-  none_collects other listed collects = absurd (no_collection other.order (all other listed) collects)
+  none_collects other listed collects = absurd (true≢false (sym collects ∙ no_collection other.order (all other listed)))
 
   -- ---- how it stands
 

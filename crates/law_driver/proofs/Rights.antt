@@ -1,7 +1,6 @@
 -- Turns of a line whose machine keeps to one node and the door: they stand there, and give nothing up.
 use Rattle.std.proofs.Common.{◌≡◌, ℕ, Bool, true, false, ◌&&◌, ◌||◌, not, List, [], ◌∷◌, refl, sym, subst, ap, ◌∙◌, eqb}
-use Rattle.std.specs.Prelude.{IsTrue, None, Option, Some, is_none}
-use Rattle.std.specs.List.{list_all}
+use Rattle.std.specs.Prelude.{IsFalse, IsTrue, None, Option, Some}
 use Rattle.std.proofs.lemmas.Bool.{and_parts, eqb-true, eq-eqb, false≢true}
 use Rattle.aft_id.specs.declared.txn_id.TxnId.{TxnId}
 use Rattle.aft_model.specs.declared.caller.By.{By}
@@ -20,7 +19,7 @@ use Rattle.aft_lines.specs.CausesRounds.{is_collect}
 use Rattle.aft_lines.specs.LegalTrace.{is_backed_at, is_named, named_node, stands_at, turn_of, turn_words}
 use Rattle.aft_lines.specs.LinePosts.{AtBox, does_nothing, from_office, keeps_mail, posts_of}
 use Rattle.aft_lines.specs.Makes.{makes, makes_at_door, makes_at_node, makes_at_office}
-use Rattle.aft_lines.specs.Turns.{AtDoor, AtNode, AtOffice, Turn, given_by, given_in}
+use Rattle.aft_lines.specs.Turns.{AtDoor, AtNode, AtOffice, Turn}
 use Rattle.aft_turns.specs.Stands.{is_right}
 use Rattle.law_accounts.specs.Turned.{is_at_node_or_door}
 use Rattle.law_driver.specs.Driven.{is_at_one_node}
@@ -64,17 +63,6 @@ no_office (commands.Start node) act kind made = false≢true made
 no_office (commands.Forget uuid node) act kind made = false≢true made
 no_office command act kind made = false≢true kind
 
-no_give_up : (command : Command) (id : TxnId) → IsTrue (is_at_one_node command) → IsTrue (makes_at_node command (acts.GiveUp id)) → ⊥
-no_give_up (commands.Begin uuid node) id kind made = false≢true made
-no_give_up (commands.Put key value) id kind made = false≢true made
-no_give_up (commands.Get key) id kind made = false≢true made
-no_give_up commands.Commit id kind made = false≢true made
-no_give_up commands.Abort id kind made = false≢true made
-no_give_up (commands.Crash node) id kind made = false≢true made
-no_give_up (commands.Start node) id kind made = false≢true made
-no_give_up (commands.Forget uuid node) id kind made = false≢true made
-no_give_up command id kind made = false≢true kind
-
 no_door_give_up : (command : Command) (node inc : ℕ) (id : TxnId) → IsTrue (is_at_one_node command) → IsTrue (makes_at_door command (doors.GiveUp node inc id)) → ⊥
 no_door_give_up (commands.Begin uuid node) at inc id kind made = false≢true made
 no_door_give_up (commands.Put key value) at inc id kind made = false≢true made
@@ -86,16 +74,16 @@ no_door_give_up (commands.Start node) at inc id kind made = false≢true made
 no_door_give_up (commands.Forget uuid node) at inc id kind made = false≢true made
 no_door_give_up command at inc id kind made = false≢true kind
 
-pub no_collection : (command : Command) → IsTrue (is_at_one_node command) → IsTrue (is_collect command) → ⊥
-no_collection (commands.Begin uuid node) kind collects = false≢true collects
-no_collection (commands.Put key value) kind collects = false≢true collects
-no_collection (commands.Get key) kind collects = false≢true collects
-no_collection commands.Commit kind collects = false≢true collects
-no_collection commands.Abort kind collects = false≢true collects
-no_collection (commands.Crash node) kind collects = false≢true collects
-no_collection (commands.Start node) kind collects = false≢true collects
-no_collection (commands.Forget uuid node) kind collects = false≢true collects
-no_collection command kind collects = false≢true kind
+pub no_collection : (command : Command) → IsTrue (is_at_one_node command) → IsFalse (is_collect command)
+no_collection (commands.Begin uuid node) kind = refl
+no_collection (commands.Put key value) kind = refl
+no_collection (commands.Get key) kind = refl
+no_collection commands.Commit kind = refl
+no_collection commands.Abort kind = refl
+no_collection (commands.Crash node) kind = refl
+no_collection (commands.Start node) kind = refl
+no_collection (commands.Forget uuid node) kind = refl
+no_collection command kind = absurd (false≢true kind)
 
 -- it stands at the line's node, or at the door
 pub right_place : (command : Command) (hold : Hold) (turn : Turn) → IsTrue (is_at_one_node command) → IsTrue (is_right command hold turn) → IsTrue (is_at_node_or_door (node_of command hold) turn)
@@ -105,20 +93,7 @@ right_place command hold (AtNode node before entry) kind right =
     eq-eqb node (node_of command hold) (sym (eqb-true (node_of command hold) node at))
 right_place command hold (AtOffice before entry) kind right = absurd (no_office command entry.act kind (right_parts command hold (AtOffice before entry) right).0)
 
--- a turn at a node is at the line's
-pub right_node : (command : Command) (hold : Hold) (node : ℕ) (before : List NodeEntry) (entry : NodeEntry) → IsTrue (is_at_one_node command) → IsTrue (is_right command hold (AtNode node before entry)) → node ≡ node_of command hold
-right_node command hold node before entry kind right = eqb-true node (node_of command hold) (right_place command hold (AtNode node before entry) kind right)
-
--- and gives nothing up
-pub right_quiet : (command : Command) (hold : Hold) (turn : Turn) → IsTrue (is_at_one_node command) → IsTrue (is_right command hold turn) → IsTrue (is_none (given_in turn))
-right_quiet command hold (AtDoor place act) kind right = refl
-right_quiet command hold (AtOffice before entry) kind right = refl
-right_quiet command hold (AtNode node before entry) kind right = by_act entry.act (right_parts command hold (AtNode node before entry) right).0
-  where
-    by_act : (act : NodeAct) → IsTrue (makes_at_node command act) → IsTrue (is_none (given_by act))
-    by_act (acts.GiveUp id) made = absurd (no_give_up command id kind made)
-    by_act act made = refl
-
+-- what it does at the door gives nothing up
 pub right_backed : (command : Command) (by : By) (place : ℕ) (nodes : List (List NodeEntry)) (act : DoorAct) → IsTrue (is_at_one_node command) → IsTrue (makes_at_door command act) → IsTrue (is_backed_at nodes by place act)
 right_backed command by place nodes (doors.GiveUp node inc id) kind made = absurd (no_door_give_up command node inc id kind made)
 right_backed command by place nodes act kind made = refl
