@@ -3,3 +3,5 @@ pub mod Rights
 pub mod Along
 pub mod Node
 pub mod Door
+pub mod Begin
+pub mod Others
