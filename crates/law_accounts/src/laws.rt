@@ -1,18 +1,23 @@
 //! Laws of accounts, as calls that do nothing and promise them.
 
-ghost use Rattle.std.specs.Prelude.{◌≡◌, None, Some, IsTrue, if◌then◌else◌, ℕ};
+ghost use Rattle.std.specs.Prelude.{◌≡◌, ◌||◌, None, Some, IsTrue, if◌then◌else◌, ℕ};
 ghost use Rattle.std.specs.List.{list_all};
 ghost use Rattle.aft_model.proofs.Histories.{In};
 ghost use Rattle.aft_model.specs.declared.script.Line.{Line};
 ghost use Rattle.aft_model.specs.declared.trace.Trace.{Trace};
+ghost use Rattle.aft_model.specs.Membership.{is_up};
+ghost use Rattle.aft_model.specs.NodeSights.{is_fenced};
 ghost use Rattle.aft_lines.specs.Asked.{Asked, Ran};
+ghost use Rattle.aft_lines.specs.CourseWords.{caller_of};
 ghost use Rattle.aft_lines.specs.FinishedText.{line_of};
 ghost use Rattle.aft_lines.specs.LegalTrace.{LegalTrace, are_asks};
 ghost use Rattle.aft_lines.specs.Lines.{begins, hold_after, hold_before, lines};
-ghost use Rattle.aft_lines.specs.RunsSoFar.{RunsSoFar};
+ghost use Rattle.aft_lines.specs.RunsSoFar.{RunsSoFar, position_of};
 ghost use Rattle.aft_lines.specs.Turns.{turns};
 ghost use Rattle.aft_lines.specs.Views.{line_before, view_of};
 ghost use Rattle.law_held.specs.Desk.{is_script};
+ghost use Rattle.law_held.specs.Fetching.{Fetch};
+ghost use Rattle.law_held.specs.Standing.{fetch_in, is_get};
 ghost use Rattle.law_turns.specs.Order.{give_nothing_up, moments_ascend, tie_in_one_list};
 ghost use Rattle.law_accounts.specs.Account.{Account, IsDone, MayGoOn, NoneCollects, Stand, StandsBehind, Waits};
 ghost use Rattle.law_accounts.specs.Adding.{Added, ComesAsOrdered, Follows, maker_of, with_added};
@@ -54,4 +59,9 @@ pub fn holds_follow()
 /// Behind its opening a run has an account in which each line waits.
 pub fn accounts_begin()
     ensures { (asked : Asked) (ran : Ran) → IsTrue (is_script asked.script.lines) → IsTrue (are_asks asked) → Opened asked ran → Account asked ran (λ line. Waits) }
+{}
+
+/// In a run with an account the attempt of a get that is at a fetch has come up: it is up, or was fenced.
+pub fn fetchers_have_come_up()
+    ensures { (asked : Asked) (ran : Ran) (stand : Line → Stand) (line : Line) (fetch : Fetch) → Account asked ran stand → In line (lines asked) → IsTrue (is_get line.order) → fetch_in (position_of (view_of asked ran line)) ≡ Some fetch → IsTrue (is_up (caller_of fetch.attempt) ran.trace.door || is_fenced (caller_of fetch.attempt) ran.trace.door) }
 {}
