@@ -1,5 +1,5 @@
 -- An attempt that a get has picked for has come up: it is up at the end of a run so far, or was fenced.
-use Rattle.std.proofs.Common.{◌≡◌, ℕ, Bool, false, ◌&&◌, ◌||◌, not, List, [], ◌∷◌, ◌++◌, refl, sym, ap, subst, ◌∙◌, ◌⊎◌, inl, inr, append-nil, append_assoc}
+use Rattle.std.proofs.Common.{◌≡◌, ℕ, false, ◌&&◌, ◌||◌, not, List, [], ◌∷◌, ◌++◌, refl, sym, ap, subst, ◌∙◌, ◌⊎◌, inl, inr, append-nil, append_assoc}
 use Rattle.std.specs.Prelude.{IsTrue, None, Option, Some, filter}
 use Rattle.std.specs.List.{list_any}
 use Rattle.std.specs.Str.{bytes_eq}
@@ -41,7 +41,7 @@ use Rattle.law_attempts.proofs.Newest.{acts_of_own}
 use Rattle.law_holders.specs.Rows.{is_of_node}
 use Rattle.law_claims.specs.Moments.{node_steps, or_not_begun}
 use Rattle.law_claims.proofs.Fenced.{fenced_more}
-use Rattle.law_runs.specs.Runs.{Goes, asking_of, command_in, ends_in, line_among, run_steps, without_office}
+use Rattle.law_runs.specs.Runs.{Goes, asking_of, command_in, ends_in, run_steps, without_office}
 use Rattle.law_runs.proofs.Come.{it_comes}
 use Rattle.law_runs.proofs.InStages.{kept_behind}
 use Rattle.law_runs.proofs.LegalRuns.{so_far_goes}

@@ -1,6 +1,6 @@
 -- Lines that neither move an attempt nor read for one never stop in the middle of their course.
-use Rattle.std.proofs.Common.{Bool, true, false, ◌&&◌, ◌||◌, not, List, [], ◌∷◌, ◌++◌, ℕ}
-use Rattle.std.specs.Prelude.{IsFalse, IsTrue, None, Option, Some, if◌then◌else◌, is_some}
+use Rattle.std.proofs.Common.{Bool, true, false, ◌&&◌, not, List, [], ◌∷◌, ◌++◌, ℕ}
+use Rattle.std.specs.Prelude.{IsFalse, None, Option, Some, if◌then◌else◌, is_some}
 use Rattle.std.specs.List.{flat_map, list_any}
 use Rattle.std.specs.Str.{bytes_eq}
 use Rattle.std.proofs.lemmas.Bool.{true≢false}
@@ -23,7 +23,7 @@ use Rattle.aft_lines.specs.LineCourse.{ends_boot, follows_course}
 use Rattle.aft_lines.specs.OrphanCourse.{VersionAt, tells_round, versions_prefix}
 use Rattle.aft_lines.specs.Progress.{Along, AtDesk, BootScan, BootScanned, CopyMarkers, CopyRecords, Copying, HasFenced, InRound, IsOver, MustComeUp, MustFence, NotBegun, OrphanScan, Progress, Scanning, Standing, Stopped}
 use Rattle.aft_lines.specs.ScanCourse.{copy_limit, names_limit, versions_limit}
-use Rattle.aft_lines.specs.Turns.{AtDoor, AtNode, AtOffice, Turn, answer_in}
+use Rattle.aft_lines.specs.Turns.{AtDoor, AtNode, Turn, answer_in}
 use Rattle.law_claims.proofs.Parting.{either_way}
 use Rattle.law_accounts.proofs.Stopping.{of_one}
 

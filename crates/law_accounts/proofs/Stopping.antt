@@ -1,27 +1,24 @@
 -- Where a line comes before it is over doesn't rest on what it has seen; and which lines stop in the middle of their course, and why.
-use Rattle.std.proofs.Common.{◌≡◌, ℕ, Bool, true, false, ◌&&◌, ◌||◌, not, List, [], ◌∷◌, refl, sym, ap, subst, ◌∙◌, ◌⊎◌, inl, inr, eqb}
-use Rattle.std.specs.Prelude.{IsFalse, IsTrue, None, Option, Some, if◌then◌else◌, is_some}
-use Rattle.std.specs.List.{flat_map, fold, list_any}
+use Rattle.std.proofs.Common.{◌≡◌, ℕ, Bool, true, false, ◌&&◌, ◌||◌, not, List, [], ◌∷◌, refl, ap, subst, ◌∙◌, inl, inr, eqb}
+use Rattle.std.specs.Prelude.{IsFalse, IsTrue, None, Option, Some, if◌then◌else◌}
+use Rattle.std.specs.List.{fold}
 use Rattle.std.specs.Str.{bytes_eq}
-use Rattle.std.proofs.lemmas.Bool.{and_parts, cases_Bool, eqb-true, false≢true, not-true, true≢false}
+use Rattle.std.proofs.lemmas.Bool.{cases_Bool, false≢true, true≢false}
 use Rattle.aft_id.specs.declared.txn_id.TxnId.{TxnId}
 use Rattle.aft_keeper.specs.declared.keeper.KeeperAnswer.{KeeperAnswer}
 use Rattle.aft_keeper.specs.declared.keeper.KeeperCall.TheVariants as calls
 use Rattle.aft_keeper.specs.declared.keeper.Pair.{Pair}
-use Rattle.aft_records.specs.declared.stored.Commit.{Commit}
 use Rattle.aft_model.specs.declared.caller.Attempt.{Attempt}
 use Rattle.aft_model.specs.declared.door.DoorAct.TheVariants as doors
 use Rattle.aft_model.specs.declared.node.NodeAct.{NodeAct}
-use Rattle.aft_model.specs.declared.node.NodeEntry.{NodeEntry}
-use Rattle.aft_model.specs.declared.office.OfficeAct.{OfficeAct}
 use Rattle.aft_model.specs.declared.reply.Reply.{Reply}
 use Rattle.aft_model.specs.declared.script.Command.{Command}
 use Rattle.aft_model.specs.declared.script.Command.TheVariants as commands
 use Rattle.aft_model.specs.Attempts.{Write}
-use Rattle.aft_model.specs.Membership.{Incarnation, incarnation, same_incarnation}
+use Rattle.aft_model.specs.Membership.{incarnation, same_incarnation}
 use Rattle.aft_model.specs.NodeState.{node_state}
-use Rattle.aft_model.specs.Readings.{marker_name, record_name, version_name}
-use Rattle.aft_lines.specs.Advance.{advance, advance_claim, advance_finish, advance_get, advanced, allows, behind_failure, behind_marker, behind_settling, behind_unused, closed_by, claimed_by, doubted_by, fetched_by, forgotten_by, freed_by, got_by, if_nothing, if_so, is_stored_in, left_alone, leads_to, looked_by, noted_at_node, or_at, put_by, released_by, shut_out_by, stored_by, tells_outcome}
+use Rattle.aft_model.specs.Readings.{marker_name, record_name}
+use Rattle.aft_lines.specs.Advance.{advance, advance_claim, advance_finish, advance_get, advanced, allows, behind_failure, behind_marker, behind_settling, behind_unused, closed_by, claimed_by, doubted_by, fetched_by, forgotten_by, freed_by, got_by, if_nothing, if_so, is_stored_in, left_alone, looked_by, noted_at_node, or_at, put_by, released_by, shut_out_by, stored_by, tells_outcome}
 use Rattle.aft_lines.specs.BeginCourse.{Beginning, begins_running, gives_back}
 use Rattle.aft_lines.specs.CommitCourse.{Storing, doubts, is_version_of, is_written_as, takes_away}
 use Rattle.aft_lines.specs.CourseWords.{Ends, answers_down, any_answer, caller_of, ends_shut_out, tells_down, tells_no_memory, tells_refused, tells_unclaimed}

@@ -1,8 +1,8 @@
 -- Where a line stops in the middle of its course by a turn that has seen the whole door, it has seen its incarnation fenced.
-use Rattle.std.proofs.Common.{◌≡◌, ◌≤◌, ℕ, suc, Bool, true, false, ◌&&◌, ◌||◌, not, List, [], ◌∷◌, ◌++◌, take, length, refl, sym, ap, subst, ◌∙◌, ◌⊎◌, inl, inr, eqb, append-nil, arith}
+use Rattle.std.proofs.Common.{◌≡◌, ℕ, suc, Bool, true, false, ◌&&◌, ◌||◌, not, List, [], ◌∷◌, ◌++◌, take, length, refl, sym, ap, subst, ◌∙◌, ◌⊎◌, inl, inr, eqb, append-nil, arith}
 use Rattle.std.specs.Prelude.{IsFalse, IsTrue, None, Option, Some, if◌then◌else◌}
-use Rattle.std.specs.List.{fold, list_any}
-use Rattle.std.proofs.lemmas.Bool.{and_parts, cases_Bool, eq-eqb, eqb-true, false≢true, not-true, or_cases, or_left, or_right, true≢false}
+use Rattle.std.specs.List.{list_any}
+use Rattle.std.proofs.lemmas.Bool.{and_parts, cases_Bool, eq-eqb, eqb-true, not-true, or_cases, or_left, or_right, true≢false}
 use Rattle.std.proofs.lemmas.List.{take_all}
 use Rattle.std.proofs.lemmas.List.Sums.{fold-append}
 use Rattle.aft_model.specs.declared.caller.Attempt.{Attempt}
@@ -22,7 +22,7 @@ use Rattle.aft_model.specs.Membership.{Incarnation, is_up}
 use Rattle.aft_model.specs.NodeSights.{is_fenced}
 use Rattle.aft_model.specs.NodeState.{IsServing, NodeState, boots, node_state, part, part_in, serves, service_in}
 use Rattle.aft_model.proofs.Histories.{In, all_at, any_from, in_back}
-use Rattle.aft_lines.specs.Advance.{advance, advanced, closed_by, fetched_by, got_with, leads_to}
+use Rattle.aft_lines.specs.Advance.{advance, advanced, closed_by, got_with, leads_to}
 use Rattle.aft_lines.specs.Asked.{Asked, Ran}
 use Rattle.aft_lines.specs.CourseWords.{Ends, answers_down, caller_of}
 use Rattle.aft_lines.specs.FinishedText.{line_of}
@@ -31,20 +31,17 @@ use Rattle.aft_lines.specs.LineView.{LineView, ends_of, has_left}
 use Rattle.aft_lines.specs.Lines.{lines, node_numbers}
 use Rattle.aft_lines.specs.Progress.{Fetching, HasFetched, IsOver, NotBegun, Progress, Stopped, has_ended}
 use Rattle.aft_lines.specs.RunsSoFar.{has_seen_fence, is_stopped_rightly, position_of, same_answer}
-use Rattle.aft_lines.specs.Steps.{door_steps}
 use Rattle.aft_lines.specs.Turns.{AtNode, Turn, end_front, front_in, turns}
 use Rattle.aft_lines.specs.Views.{view_of}
-use Rattle.law_attempts.specs.Acts.{first_attempts}
 use Rattle.law_attempts.proofs.Lives.{lives}
 use Rattle.law_attempts.proofs.Standing.{first_within}
 use Rattle.law_holders.specs.Rows.{is_of_attempt, is_of_node}
 use Rattle.law_claims.specs.Doing.{attempt_at, has_claim_at, moves}
-use Rattle.law_claims.specs.Moments.{node_steps}
 use Rattle.law_claims.proofs.Scenes.{doing_there, moves_it}
 use Rattle.law_runs.specs.Runs.{Goes, run_steps, without_office}
 use Rattle.law_runs.proofs.LegalRuns.{so_far_goes}
 use Rattle.law_runs.proofs.Nodes.{nodes_rules}
-use Rattle.law_runs.proofs.Walks.{Why, stops_why}
+use Rattle.law_runs.proofs.Walks.{stops_why}
 use Rattle.law_steps.proofs.Histories.{door_is}
 use Rattle.law_steps.specs.Histories.{history_in}
 use Rattle.law_held.specs.Fetching.{Fetch, fetch_at}
@@ -167,8 +164,8 @@ module _ (asked : Asked) (ran : Ran) (stand : Line → Stand) (line : Line) (nod
   there a = node_state (history_in a.node 1 ran.trace.nodes)
 
   -- a node that has left an incarnation doesn't boot or serve it
-  left_alone : (a : Attempt) → a.node ≡ node → IsTrue (has_left a.inc (node_state history)) → IsFalse (boots a.inc (there a) || serves a.inc (there a))
-  left_alone a its left =
+  not_there : (a : Attempt) → a.node ≡ node → IsTrue (has_left a.inc (node_state history)) → IsFalse (boots a.inc (there a) || serves a.inc (there a))
+  not_there a its left =
       cases (serves a.inc (there a)) (boots a.inc (there a)) (not-true (serves a.inc (there a) || boots a.inc (there a)) (subst (λ (h : List NodeEntry). IsTrue (has_left a.inc (node_state h))) (same_history node 1 ran.trace.nodes ∙ ap (λ (n : ℕ). history_in n 1 ran.trace.nodes) (sym its)) left))
     where
       cases : (one other : Bool) → (one || other) ≡ false → (other || one) ≡ false
@@ -180,7 +177,7 @@ module _ (asked : Asked) (ran : Ran) (stand : Line → Stand) (line : Line) (nod
   left_fenced : (a : Attempt) → a.node ≡ node → IsTrue (has_left a.inc (node_state history)) → IsTrue (is_of_node (caller_of a)) → UpOrFenced (caller_of a) ran.trace.door → IsTrue (is_fenced (caller_of a) ran.trace.door)
   left_fenced a its left of came = elim (or_cases (is_up (caller_of a) ran.trace.door) (is_fenced (caller_of a) ran.trace.door) came) [
     | inr gone ↦ gone
-    | inl up ↦ absurd (true≢false (sym (still up) ∙ left_alone a its left))
+    | inl up ↦ absurd (true≢false (sym (still up) ∙ not_there a its left))
   ]
     where
       still : IsTrue (is_up (caller_of a) ran.trace.door) → IsTrue (boots a.inc (there a) || serves a.inc (there a))
@@ -191,6 +188,7 @@ module _ (asked : Asked) (ran : Ran) (stand : Line → Stand) (line : Line) (nod
 
   -- ---- a line that moves its attempt
 
+  -- whether its attempt does what a position asks
   abbrev does : Progress → Attempt → Bool
   does position a = moves position a (attempt_state a (part_of_node a.node ran)) (uuid_of a (part_of_node a.node ran))
 
@@ -212,7 +210,7 @@ module _ (asked : Asked) (ran : Ran) (stand : Line → Stand) (line : Line) (nod
       by_stand so = elim (or_cases (is_fenced (caller_of a) ran.trace.door) (does position a && same_answer (holds (caller_of a) (uuid_of a (part_of_node a.node ran)) ran.trace.door) (has_claim_at position)) so) [
         | inl gone ↦ gone
         | inr moved ↦
-            absurd (true≢false (sym (or_right (boots a.inc (there a)) (serves a.inc (there a)) (serve (and_parts (does position a) _ moved).0)) ∙ left_alone a its left))
+            absurd (true≢false (sym (or_right (boots a.inc (there a)) (serves a.inc (there a)) (serve (and_parts (does position a) _ moved).0)) ∙ not_there a its left))
       ]
 
   -- ---- behind the turn
