@@ -1,24 +1,30 @@
 //! Laws of accounts, as calls that do nothing and promise them.
 
-ghost use Rattle.std.specs.Prelude.{◌≡◌, None, Some, IsFalse, IsTrue, if◌then◌else◌, ℕ};
-ghost use Rattle.std.specs.List.{list_all};
 ghost use Rattle.aft_model.proofs.Histories.{In};
+ghost use Rattle.aft_model.specs.declared.node.NodeEntry.{NodeEntry};
 ghost use Rattle.aft_model.specs.declared.script.Command.{Command};
+ghost use Rattle.std.specs.List.{list_all};
+ghost use Rattle.std.specs.Prelude.{◌≡◌, None, Some, IsFalse, IsTrue, if◌then◌else◌, ℕ, ◌||◌, ◌++◌, ◌∷◌, [], length};
 ghost use Rattle.aft_model.specs.declared.script.Line.{Line};
 ghost use Rattle.aft_model.specs.declared.trace.Trace.{Trace};
+ghost use Rattle.aft_model.specs.Membership.{is_up};
+ghost use Rattle.aft_model.specs.NodeSights.{is_fenced};
 ghost use Rattle.aft_lines.specs.Asked.{Asked, Ran};
 ghost use Rattle.aft_lines.specs.CausesRounds.{is_collect};
+ghost use Rattle.aft_lines.specs.CourseWords.{caller_of};
 ghost use Rattle.aft_lines.specs.FinishedText.{line_of};
 ghost use Rattle.aft_lines.specs.LegalTrace.{LegalTrace, are_asks};
 ghost use Rattle.aft_lines.specs.Lines.{begins, hold_after, hold_before, lines};
 ghost use Rattle.aft_lines.specs.Makes.{makes};
-ghost use Rattle.aft_lines.specs.RunsSoFar.{RunsSoFar};
-ghost use Rattle.aft_lines.specs.Turns.{turns};
+ghost use Rattle.aft_lines.specs.RunsSoFar.{RunsSoFar, is_stopped_rightly, position_of};
+ghost use Rattle.aft_lines.specs.Turns.{turns, AtNode};
 ghost use Rattle.aft_lines.specs.Views.{line_before, view_of};
 ghost use Rattle.law_held.specs.Desk.{is_script};
+ghost use Rattle.law_held.specs.Fetching.{Fetch};
+ghost use Rattle.law_held.specs.Standing.{fetch_in, is_get};
 ghost use Rattle.law_turns.specs.Order.{give_nothing_up, moments_ascend, tie_in_one_list};
 ghost use Rattle.law_accounts.specs.Account.{Account, IsDone, MayGoOn, NoneCollects, Stand, StandsBehind, Waits};
-ghost use Rattle.law_accounts.specs.Adding.{Added, ComesAsOrdered, Follows, maker_of, with_added};
+ghost use Rattle.law_accounts.specs.Adding.{Added, AddsAtNode, ComesAsOrdered, Follows, maker_of, numbered_in, with_added};
 ghost use Rattle.law_accounts.specs.Next.{ComesNext, IsFirst};
 ghost use Rattle.law_accounts.specs.Opened.{Opened};
 ghost use Rattle.law_accounts.specs.Turned.{comes_after, has_node, is_at_node_or_door, turned_by};
@@ -57,4 +63,15 @@ pub fn holds_follow()
 /// Behind its opening a run has an account in which each line waits.
 pub fn accounts_begin()
     ensures { (asked : Asked) (ran : Ran) → IsTrue (is_script asked.script.lines) → IsTrue (are_asks asked) → Opened asked ran → Account asked ran (λ line. Waits) }
+{}
+
+/// In a run with an account the attempt of a get that is at a fetch has come up: it is up, or was fenced.
+pub fn fetchers_have_come_up()
+    ensures { (asked : Asked) (ran : Ran) (stand : Line → Stand) (line : Line) (fetch : Fetch) → Account asked ran stand → In line (lines asked) → IsTrue (is_get line.order) → fetch_in (position_of (view_of asked ran line)) ≡ Some fetch → IsTrue (is_up (caller_of fetch.attempt) ran.trace.door || is_fenced (caller_of fetch.attempt) ran.trace.door) }
+{}
+
+/// Where a line stops in the middle of its course by a turn at its node that has seen all that is at the door, one of its turns
+/// has seen the fence of the attempt's incarnation.
+pub fn stops_are_seen()
+    ensures { (asked : Asked) (ran : Ran) (stand : Line → Stand) (line : Line) (node : ℕ) (entry : NodeEntry) → Account asked ran stand → MayGoOn asked stand line → entry.by ≡ line_of line → Follows asked ran (AddsAtNode node entry) → entry.front ≡ length ran.trace.door → turns (line_of line) (with_added (AddsAtNode node entry) ran).trace ≡ turns (line_of line) ran.trace ++ AtNode node (numbered_in node 1 ran.trace.nodes) entry ∷ [] → IsTrue (is_stopped_rightly (view_of asked (with_added (AddsAtNode node entry) ran) line).seen (view_of asked (with_added (AddsAtNode node entry) ran) line).turns (position_of (view_of asked (with_added (AddsAtNode node entry) ran) line))) }
 {}

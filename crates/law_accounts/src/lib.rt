@@ -8,5 +8,6 @@
 mod laws;
 
 pub use laws::{
-    accounts_are_runs, accounts_begin, accounts_end, accounts_go_on, holds_follow, turns_follow,
+    accounts_are_runs, accounts_begin, accounts_end, accounts_go_on, fetchers_have_come_up,
+    holds_follow, stops_are_seen, turns_follow,
 };
