@@ -29,7 +29,7 @@ read_itself : {A : Type 0} (its_name : A → List ℕ) (read : Result A RecordFa
 read_itself {A} its_name read x is =
     ap (λ (r : Result A RecordFault). read_under (its_name x) its_name r) is ∙ ap (λ (t : Bool). if t then x ∷ [] else []) (bytes_eq-refl (its_name x))
 
-same_itself : (c : Commit) → IsTrue (same_commit c c)
+pub same_itself : (c : Commit) → IsTrue (same_commit c c)
 same_itself c = and_from _ _ (same_id-refl c.id) (keys-refl c.keys)
 
 ids_themselves : (ids : List TxnId) → IsTrue (pointwise same_id ids ids)
