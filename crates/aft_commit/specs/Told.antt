@@ -61,7 +61,7 @@ abbrev pub may_leave_with : Bool → ℕ → Bool
 may_leave_with true count = true
 may_leave_with false count = count == 0
 
--- its attempt is to leave, which the first turn found ready
+-- its attempt is to leave, and the first turn found it ready for that
 pub record IsToLeave (by : By) (hold : Hold) (aborts : Bool) (made : List Turn) : Type 0 where
   pub begun : HasBegun by made
   pub ready : IsTrue (is_served (is_ready (may_leave_with aborts)) hold.attempt (service begun.before))
@@ -76,24 +76,24 @@ entries_by by made = flat_map (door_entry_in by) made
 abbrev pub Undamaged : Commit → List Turn → Type 0
 Undamaged c made = (by : By) → flat_map (damage_in (Some c)) (entries_by by made) ≡ []
 
--- nor did a call fail
+-- no call failed, and no damage was shown
 pub record IsQuiet (c : Commit) (made : List Turn) : Type 0 where
   pub unfailed : (by : By) → has_failed (entries_by by made) ≡ false
   pub undamaged : Undamaged c made
 
--- the put of the record failed, and no get of it
+-- the put of the record failed, no get of it did, and no damage was shown
 pub record HasFailedPut (c : Commit) (made : List Turn) : Type 0 where
   pub put : (by : By) → IsTrue (list_any (λ entry. fails_put (record_name c.id.uuid) entry.act) (entries_by by made))
   pub got : (by : By) → list_any (λ entry. fails_get (record_name c.id.uuid) entry.act) (entries_by by made) ≡ false
   pub undamaged : Undamaged c made
 
--- a call failed, but not both the put of the record and the get behind it
+-- a call failed, but not both the put of the record and a get of it behind that, and no damage was shown
 pub record HasFault (c : Commit) (made : List Turn) : Type 0 where
   pub failed : (by : By) → IsTrue (has_failed (entries_by by made))
   pub settled : (by : By) → fails_both c (entries_by by made) ≡ false
   pub undamaged : Undamaged c made
 
--- both did
+-- both the put of the record and a get of it behind that failed
 abbrev pub BothFailed : Commit → List Turn → Type 0
 BothFailed c made = (by : By) → IsTrue (fails_both c (entries_by by made))
 
@@ -120,7 +120,7 @@ ToldDoubt a look aborts c made (replies.NodeDown node inc) = (node ≡ a.node) �
 ToldDoubt a look aborts c made replies.NoMemory = Unit
 ToldDoubt a look aborts c made reply = ⊥
 
--- and an end: its commit, of this id, is stored; an abort found no record of this UUID; or the attempt leaves
+-- an end is told so: the commit, of this id, is stored; an abort found no record of this UUID; or the attempt leaves
 abbrev pub ToldEnd : By → Hold → Bool → List ℕ → Outcome → List Turn → Type 0
 ToldEnd by hold aborts uuid (Stored id) made = (c : Commit) × (id ≡ c.id) × IsToStore by hold aborts c made × IsStored c made
 ToldEnd by hold aborts uuid Absent made = (c : Commit) × (uuid ≡ c.id.uuid) × (aborts ≡ true) × IsToStore by hold aborts c made × IsAbsent uuid made
@@ -135,6 +135,7 @@ AnswersAtOnce clock hold aborts node reply =
     ⊎ ((end_refusal hold.attempt node ≡ Some reply) × ForSome hold.attempt (λ a. a.node ≡ node.number))
     ⊎ ((aborts ≡ false) × (reply ≡ replies.ClockEnd) × IsTrue (is_served (λ a serving. is_ready (λ count. not (count == 0)) a serving && passes_end (Some clock) a serving) hold.attempt (service node.history)))
 
+-- a line whose first turn answered
 pub record EndedAtOnce (clock : ℕ) (by : By) (hold : Hold) (aborts : Bool) (trail : Trail) : Type 0 where
   pub node : NodeView
   pub front : ℕ
@@ -148,6 +149,7 @@ pub data Closing : Type 0 where
   IsEnded : List ℕ → Outcome → Closing
   IsDown : Closing
 
+-- what that turn does, and what it answers
 abbrev pub closing_act : Attempt → Closing → NodeAct
 closing_act a (IsDoubted reply) = acts.Doubt a
 closing_act a (IsEnded uuid outcome) = acts.End a
@@ -164,6 +166,7 @@ Closes by hold aborts a look made before (IsDoubted reply) = (c : Commit) × IsT
 Closes by hold aborts a look made before (IsEnded uuid outcome) = ToldEnd by hold aborts uuid outcome made × IsTrue (may_end_with uuid outcome (attempt_state a (part before)))
 Closes by hold aborts a look made before IsDown = HasBegun by made × (IsTrue (has_left a.inc (node_state before)) ⊎ IsTrue (is_fenced (caller_of a) look))
 
+-- a line that ended behind its first turn
 pub record EndedLater (by : By) (hold : Hold) (aborts : Bool) (trail : Trail) : Type 0 where
   pub attempt : Attempt
   pub held : hold.attempt ≡ Some attempt
