@@ -42,11 +42,11 @@ use Rattle.aft_commit.specs.declared.stage.Stage.{Stage}
 use Rattle.aft_commit.specs.declared.stage.Stage.TheVariants.{Doubts, Failed, Releases, Settles, Stores}
 use Rattle.aft_commit.specs.Calls.{IsRefused, LooksSo, PutSo, PutsSo, RecordPutsSo, ReleasesSo, look_act, record_act, release_act, version_act}
 use Rattle.aft_commit.specs.Made.{HasCome, IsToRelease, MayDoubt, ending_of, is_own_silent, led_at, made_at, storing_with}
-use Rattle.aft_commit.specs.Told.{IsToStore, ToldDoubt, Undamaged, told_at}
+use Rattle.aft_commit.specs.Told.{ArePut, IsToStore, ToldDoubt, Undamaged, told_at}
 use Rattle.aft_commit.specs.View.{looked_stage, record_stage, released_stage, settled_stage, version_stage}
 use Rattle.aft_commit.proofs.Coming.{Leads, come_on, come_still, door_sees}
 use Rattle.aft_commit.proofs.Stored.{next_write, none_left, put_record, put_version}
-use Rattle.aft_commit.proofs.Telling.{both_failed, end_on, fault_behind, fault_first, first_damaged, put_fails, put_stored, quiet_on, shown_absent, shown_stored, stores_on}
+use Rattle.aft_commit.proofs.Telling.{both_failed, end_on, fault_behind, fault_first, first_damaged, put_fails, put_on, put_stored, quiet_on, shown_absent, shown_stored, stores_on}
 use Rattle.aft_turns.specs.Refusals.{refusal_of}
 use Rattle.aft_turns.specs.Steps.{StepsAtDoor}
 use Rattle.aft_turns.specs.Trail.{Trail, behind}
@@ -161,7 +161,7 @@ module _ (clock : ℕ) (by : By) (hold : Hold) (a : Attempt) (old new : List Doo
         made,
         λ trail stood. (
           (stood.0.0, stood.0.1, stood.0.2 refl, refl, settled_on false r stood.0.0 answers.Absent (IsStoring (storing_with a r stood.0.0) stood.0.0) refl trail stood.0.3),
-          (stores_behind false r.commit trail (look_act a r.commit answers.Absent) stood.1.0, quiet_on trail.turns (length old) (look_act a r.commit answers.Absent) r.commit refl refl stood.1.1),
+          (stores_behind false r.commit trail (look_act a r.commit answers.Absent) stood.1.0, quiet_on trail.turns (length old) (look_act a r.commit answers.Absent) r.commit refl refl stood.1.1, λ who. refl),
         ),
       )
   settle_step aborts r values sights.Failed made =
@@ -382,7 +382,7 @@ module _ (clock : ℕ) (by : By) (hold : Hold) (a : Attempt) (old new : List Doo
             made,
             λ trail stood. (
               (stood.0.0, stood.0.1, stood.0.2, stood.0.3, subst (λ (n : ℕ). Come aborts (IsStoring (storing_with a r stood.0.0) (drop n stood.0.0)) (behind trail (AtDoor (length old) (version_act a v answers.Done)))) (sym next) (gone_on answers.Done (λ writes. IsStoring (storing_with a r writes) (drop (suc count) writes)) acknowledged trail stood.0)),
-              (stores_behind aborts r.commit trail (version_act a v answers.Done) stood.1.0, quiet_on trail.turns (length old) (version_act a v answers.Done) r.commit refl refl stood.1.1),
+              (stores_behind aborts r.commit trail (version_act a v answers.Done) stood.1.0, quiet_on trail.turns (length old) (version_act a v answers.Done) r.commit refl refl stood.1.1, subst (λ (n : ℕ). ArePut a r.commit n (trail.turns ++ AtDoor (length old) (version_act a v answers.Done) ∷ [])) (sym next) (put_on a r.commit count trail.turns (length old) v is at.0 at.1 stood.1.2)),
             ),
           )
       by_result (Err faults.Failed) made =

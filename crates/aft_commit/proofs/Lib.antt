@@ -4,6 +4,7 @@ pub mod Coming
 pub mod DoorSteps
 pub mod Fitting
 pub mod Found
+pub mod Knowing
 pub mod Leading
 pub mod NodeSteps
 pub mod Once

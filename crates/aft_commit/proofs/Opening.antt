@@ -176,7 +176,7 @@ module _ (now handed : ℕ) (by : By) (hold : Hold) (old new : NodeView) (legal 
               refl,
               first_come false (IsStoring (storing_of a (part old.history) (commit_of now a old.history)) (buffer a (part old.history))) (acts.Start a now (commit_of now a old.history)) (own_start (commit_of now a old.history)) (λ seen. refl) (λ nodes ends. refl),
             ),
-            (stores, quiet_first (commit_of now a old.history) (acts.Start a now (commit_of now a old.history))),
+            (stores, quiet_first (commit_of now a old.history) (acts.Start a now (commit_of now a old.history)), λ who. refl),
           )
         where
           stores : IsToStore by hold false (commit_of now a old.history) (turn_with (acts.Start a now (commit_of now a old.history)) None ∷ [])

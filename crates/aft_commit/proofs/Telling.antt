@@ -1,23 +1,25 @@
 -- What a line was told grows with each turn.
-use Rattle.std.proofs.Common.{◌≡◌, ℕ, Bool, true, false, ◌||◌, ◌&&◌, not, List, [], ◌∷◌, ◌++◌, refl, sym, ap, subst, ◌∙◌, ◌⊎◌, inl, inr}
+use Rattle.std.proofs.Common.{◌≡◌, ℕ, suc, Bool, true, false, ◌||◌, ◌&&◌, not, List, [], ◌∷◌, ◌++◌, take, refl, sym, ap, subst, ◌∙◌, ◌⊎◌, inl, inr}
 use Rattle.std.specs.Prelude.{IsTrue, None, Result, Some, filter, if◌then◌else◌, map}
-use Rattle.std.specs.List.{flat_map, list_any}
+use Rattle.std.specs.List.{flat_map, list_all, list_any, slice_get}
 use Rattle.std.specs.Str.{bytes_eq}
 use Rattle.std.proofs.lemmas.Bool.{and_from, false≢true, or_cases, or_left, or_right, true≢false}
 use Rattle.std.proofs.lemmas.List.Concat.{flat_map-append}
-use Rattle.std.proofs.lemmas.List.Folds.{list_any-append}
+use Rattle.std.proofs.lemmas.List.Folds.{list_all-append, list_any-append}
 use Rattle.aft_keeper.specs.declared.keeper.KeeperAnswer.TheVariants as answers
 use Rattle.aft_keeper.specs.declared.keeper.KeeperCall.TheVariants as calls
 use Rattle.aft_keeper.specs.declared.keeper.Pair.{Pair}
 use Rattle.aft_records.specs.declared.fault.RecordFault.{RecordFault}
 use Rattle.aft_records.specs.declared.stored.Commit.{Commit}
 use Rattle.aft_records.specs.declared.stored.Record.{Record}
+use Rattle.aft_records.specs.declared.stored.Version.{Version}
 use Rattle.aft_records.specs.Commits.{is_among, same_commit}
 use Rattle.aft_records.specs.Reading.{commit_of, marker_of, version_of}
 use Rattle.aft_records.specs.Rows.{record_row}
-use Rattle.aft_records.specs.Stored.{IsRecord}
+use Rattle.aft_records.specs.Stored.{IsRecord, IsVersion}
 use Rattle.aft_records.proofs.Written.{commit_of_record_written, timely_is}
 use Rattle.aft_id.specs.TxnId.{IsUuid}
+use Rattle.aft_id.specs.declared.txn_id.TxnId.{TxnId}
 use Rattle.aft_model.specs.declared.caller.Attempt.{Attempt}
 use Rattle.aft_model.specs.declared.caller.By.{By}
 use Rattle.aft_model.specs.declared.caller.Hold.{Hold}
@@ -27,26 +29,28 @@ use Rattle.aft_model.specs.declared.door.DoorEntry.{DoorEntry}
 use Rattle.aft_model.specs.declared.node.NodeEntry.{NodeEntry}
 use Rattle.aft_model.specs.Attempts.{AttemptState, IsCommitting, IsLeaving}
 use Rattle.aft_model.specs.Committed.{committed_by}
+use Rattle.aft_model.specs.DoorKnowledge.{stores_version}
 use Rattle.aft_model.specs.Evidence.{is_absence, pairs_in, shows_absent}
 use Rattle.aft_model.specs.History.{first_of, followed}
 use Rattle.aft_model.specs.NodeSights.{is_stored_by, may_abort}
 use Rattle.aft_model.specs.Opening.{is_failure}
 use Rattle.aft_model.specs.Readings.{has_reading, read_under, record_name, records_in}
-use Rattle.aft_model.proofs.Growth.{any_grows, any_implied}
+use Rattle.aft_model.proofs.Growth.{all_implied, any_grows, any_implied}
+use Rattle.aft_model.proofs.OneCommit.{same_itself as caller_itself}
 use Rattle.aft_model.proofs.Sights.{bytes_eq-refl, no_marker, no_version, same_bytes}
 use Rattle.aft_lines.specs.CausesCommits.{fails_both, fails_get, fails_put}
 use Rattle.aft_lines.specs.CausesScans.{damage_in, is_damage, is_of_another, is_written_name}
-use Rattle.aft_lines.specs.CourseWords.{finds_record}
+use Rattle.aft_lines.specs.CourseWords.{caller_of, finds_record}
 use Rattle.aft_lines.specs.LineView.{door_entry_in}
 use Rattle.aft_lines.specs.Turns.{AtDoor, AtNode, Turn}
 use Rattle.aft_turns.proofs.Written as names
 use Rattle.aft_commit.specs.Asks.{may_end_with}
-use Rattle.aft_commit.specs.Calls.{look_act, record_act}
-use Rattle.aft_commit.specs.Told.{BothFailed, FirstDamage, HasBegun, HasFailedPut, HasFault, IsAbsent, IsQuiet, IsStored, IsToLeave, IsToStore, ToldEnd, Undamaged, entries_by}
+use Rattle.aft_commit.specs.Calls.{look_act, record_act, version_act}
+use Rattle.aft_commit.specs.Told.{ArePut, BothFailed, FirstDamage, HasBegun, HasFailedPut, HasFault, IsAbsent, IsQuiet, IsStored, IsToLeave, IsToStore, ToldEnd, Undamaged, entries_by}
 use Rattle.aft_commit.specs.View.{told_of}
 use Rattle.aft_commit.specs.declared.outcome.Outcome.{Outcome}
 use Rattle.aft_commit.specs.declared.outcome.Outcome.TheVariants.{Absent, Left, Stored}
-use Rattle.aft_commit.proofs.Stored.{same_itself}
+use Rattle.aft_commit.proofs.Stored.{same_itself, take_next, version_there}
 
 -- ---- the first turn stays
 
@@ -252,6 +256,24 @@ module _ (a : Attempt) (made : List Turn) (place : ℕ) where
       subst (λ (ns : List (List ℕ)). IsTrue (is_written_name (record_name c.id.uuid) (first_of ns))) (sym (damage_acted made place (look_act a c (answers.Found bytes)) c undamaged by))
       (subst (λ (t : Bool). IsTrue (is_written_name (record_name c.id.uuid) (first_of (map (λ (pair : Pair). pair.name) (if t then record { name = record_name c.id.uuid; bytes = bytes } ∷ [] else []) ++ [])))) (sym (is_damaged c bytes other))
       (subst (λ (name : List ℕ). IsTrue (bytes_eq (record_name c.id.uuid) name)) (sym (names.record_written c.id.uuid is)) (bytes_eq-refl (record_name c.id.uuid))))
+
+-- one version more is put
+pub put_on : (a : Attempt) (c : Commit) (count : ℕ) (made : List Turn) (place : ℕ) (v : Version) → IsVersion v → v.id ≡ c.id → slice_get c.keys count ≡ Some v.key → ArePut a c count made → ArePut a c (suc count) (acted made place (version_act a v answers.Done))
+put_on a c count made place v is its at put by =
+    subst (λ (keys : List (List ℕ)). IsTrue (list_all is_there keys)) (sym (take_next c.keys count v.key at))
+    (list_all-append is_there (take count c.keys) (v.key ∷ [])
+    ∙ and_from _ _ (all_implied was_there is_there (λ key. any_acted made place (version_act a v answers.Done) (λ e. stores_version (caller_of a) key c.id e.act) by) (take count c.keys) (put by)) (and_from _ _ last refl))
+  where
+    was_there : List ℕ → Bool
+    was_there key = list_any (λ e. stores_version (caller_of a) key c.id e.act) (entries_by by made)
+
+    is_there : List ℕ → Bool
+    is_there key = list_any (λ e. stores_version (caller_of a) key c.id e.act) (entries_by by (acted made place (version_act a v answers.Done)))
+
+    last : IsTrue (is_there v.key)
+    last =
+        last_acted made place (version_act a v answers.Done) (λ e. stores_version (caller_of a) v.key c.id e.act) by
+        (subst (λ (i : TxnId). IsTrue (stores_version (caller_of a) v.key i (version_act a v answers.Done))) its (and_from _ _ (caller_itself (caller_of a)) (version_there v is)))
 
 -- a turn at the node adds nothing to what was shown
 pub stored_still : (c : Commit) (made : List Turn) (node : ℕ) (before : List NodeEntry) (entry : NodeEntry) → IsStored c made → IsStored c (made ++ AtNode node before entry ∷ [])

@@ -1,6 +1,6 @@
 -- What a commit or an abort was told by a stage: what its first turn found, and what the door showed it since. Its answer rests on it.
-use Rattle.std.specs.Prelude.{Bool, IsTrue, List, None, Option, Some, [], false, true, ℕ, ◌++◌, ◌==◌, ◌≡◌, ◌⊎◌, ◌∷◌, ◌&&◌, not}
-use Rattle.std.specs.List.{flat_map, list_any}
+use Rattle.std.specs.Prelude.{Bool, IsTrue, List, None, Option, Some, [], false, take, true, ℕ, ◌++◌, ◌==◌, ◌≡◌, ◌⊎◌, ◌∷◌, ◌&&◌, not}
+use Rattle.std.specs.List.{flat_map, list_all, list_any}
 use Rattle.std.specs.Option.{ForSome}
 use Rattle.aft_records.specs.declared.stored.Commit.{Commit}
 use Rattle.aft_model.specs.declared.caller.Attempt.{Attempt}
@@ -13,6 +13,7 @@ use Rattle.aft_model.specs.declared.node.NodeEntry.{NodeEntry}
 use Rattle.aft_model.specs.declared.reply.Reply.{Reply}
 use Rattle.aft_model.specs.declared.reply.Reply.TheVariants as replies
 use Rattle.aft_model.specs.Attempts.{attempt_state, is_in_doubt}
+use Rattle.aft_model.specs.DoorKnowledge.{stores_version}
 use Rattle.aft_model.specs.Evidence.{shows_absent}
 use Rattle.aft_model.specs.History.{first_of}
 use Rattle.aft_model.specs.NodeSights.{is_fenced, is_stored_by}
@@ -109,6 +110,10 @@ IsStored c made = (by : By) → IsTrue (is_stored_by c (entries_by by made))
 abbrev pub IsAbsent : List ℕ → List Turn → Type 0
 IsAbsent uuid made = (by : By) → IsTrue (list_any (shows_absent (record_name uuid)) (entries_by by made))
 
+-- the versions of the first so many keys were put by the attempt's incarnation, and that was acknowledged
+abbrev pub ArePut : Attempt → Commit → ℕ → List Turn → Type 0
+ArePut a c count made = (by : By) → IsTrue (list_all (λ key. list_any (λ entry. stores_version (caller_of a) key c.id entry.act) (entries_by by made)) (take count c.keys))
+
 -- ---- why it answers what it does
 
 -- a doubt is told so, of a line that last looked at the door as it was
@@ -182,7 +187,7 @@ pub record EndedLater (by : By) (hold : Hold) (aborts : Bool) (trail : Trail) : 
 abbrev pub told_at : ℕ → By → Hold → Bool → Stage → Trail → Type 0
 told_at clock by hold aborts stages.Begins trail = Unit
 told_at clock by hold aborts (stages.Settles a r values) trail = IsToStore by hold aborts r.commit trail.turns × IsQuiet r.commit trail.turns
-told_at clock by hold aborts (stages.Stores a r values count) trail = IsToStore by hold aborts r.commit trail.turns × IsQuiet r.commit trail.turns
+told_at clock by hold aborts (stages.Stores a r values count) trail = IsToStore by hold aborts r.commit trail.turns × IsQuiet r.commit trail.turns × ArePut a r.commit count trail.turns
 told_at clock by hold aborts (stages.Failed a r) trail = (aborts ≡ false) × IsToStore by hold aborts r.commit trail.turns × HasFailedPut r.commit trail.turns
 told_at clock by hold aborts (stages.Recorded a r) trail = IsToStore by hold aborts r.commit trail.turns × IsStored r.commit trail.turns
 told_at clock by hold aborts (stages.Releases a uuid outcome) trail = ToldEnd by hold aborts uuid outcome trail.turns

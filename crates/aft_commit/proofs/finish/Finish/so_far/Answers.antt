@@ -1,3 +1,4 @@
+use Rattle.aft_commit.proofs.Knowing.{knows_so}
 use Rattle.aft_commit.proofs.Stands.{ends_so, goes_so, reads_so, sees_so, unanswered_so}
 use Rattle.aft_commit.proofs.finish.Finish.so_far.Goals as goal
 
@@ -15,3 +16,6 @@ returns-clause-sees c clock trail seen made own = sees_so clock c.args.self.now.
 
 pub returns-clause-reads : goal.returns-clause-reads
 returns-clause-reads c clock trail made = reads_so clock c.args.self.now.by c.args.self.now.hold c.args.self.now.aborts c.args.self.now.stage trail made
+
+pub returns-clause-knows : goal.returns-clause-knows
+returns-clause-knows c clock trail before since made unused own = knows_so clock c.args.self.now.by c.args.self.now.hold c.args.self.now.aborts c.args.self.now.stage trail before since made unused own
