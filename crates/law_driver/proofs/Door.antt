@@ -14,8 +14,8 @@ use Rattle.aft_model.specs.Opening.{opening}
 use Rattle.aft_model.specs.ScanRun.{same_line}
 use Rattle.aft_lines.specs.Asked.{Asked, Ran}
 use Rattle.aft_lines.specs.FinishedText.{line_of}
-use Rattle.aft_lines.specs.LineView.{LineView}
-use Rattle.aft_lines.specs.Lines.{hold_before, lines, whole_order}
+use Rattle.aft_lines.specs.LineView.{LineView, ends_of}
+use Rattle.aft_lines.specs.Lines.{hold_before, lines, node_numbers, whole_order}
 use Rattle.aft_lines.specs.Makes.{makes}
 use Rattle.aft_lines.specs.Turns.{AtDoor, AtNode, AtOffice, Turn, front_in, turns}
 use Rattle.aft_lines.specs.Views.{view_of}
@@ -33,12 +33,13 @@ use Rattle.law_grows.specs.Reach.{is_within}
 use Rattle.law_driver.specs.Driven.{Driven, Promises, ranks_in}
 use Rattle.law_driver.specs.Kept.{door_entry}
 use Rattle.law_driver.proofs.Along.{goes_along, own_hold_same}
+use Rattle.law_driver.proofs.NeverStops.{stops_not}
 use Rattle.law_driver.proofs.Node.{ranked_so}
 use Rattle.law_driver.proofs.Rights.{no_collection, node_of, right_backed, right_parts, right_place}
 use Rattle.law_driver.proofs.Seeing.{sees_door}
 
 -- what a line has looked at is a beginning of a history with more
-looked_more : (look door : List DoorEntry) (entry : DoorEntry) → (rest : List DoorEntry) × (door ≡ look ++ rest) → (rest : List DoorEntry) × ((door ++ entry ∷ []) ≡ look ++ rest)
+pub looked_more : (look door : List DoorEntry) (entry : DoorEntry) → (rest : List DoorEntry) × (door ≡ look ++ rest) → (rest : List DoorEntry) × ((door ++ entry ∷ []) ≡ look ++ rest)
 looked_more look door entry (rest, is) = (rest ++ entry ∷ [], ap (λ (l : List DoorEntry). l ++ entry ∷ []) is ∙ append_assoc look rest (entry ∷ []))
 
 module _ (asked : Asked) (ran : Ran) (stand : Line → Stand) (line : Line) (hold : Hold) (trail : Trail) (driven : Driven asked ran stand line hold trail) where
@@ -116,7 +117,7 @@ module _ (asked : Asked) (ran : Ran) (stand : Line → Stand) (line : Line) (hol
     view = view_of asked new line
 
     along : GoesAlong view
-    along = goes_along view (by_view view (record { asked = refl; held = held_same ∙ driven.held; cache = refl; turns = turned })) ?
+    along = goes_along view (by_view view (record { asked = refl; held = held_same ∙ driven.held; cache = refl; turns = turned })) (stops_not line.order (node_numbers asked.settings) (ends_of view) trail.turns (length door) act view.seen view.turns driven.kind turned)
 
     follows : Follows asked ran added
     follows = (legal, bytes, right_backed line.order (line_of line) (length door) ran.trace.nodes act driven.kind last_made)

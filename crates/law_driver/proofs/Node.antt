@@ -34,6 +34,7 @@ use Rattle.aft_turns.specs.Trail.{Trail, behind}
 use Rattle.law_accounts.proofs.GoesOn.{goes_on}
 use Rattle.law_accounts.proofs.Lists.{all_so}
 use Rattle.law_accounts.proofs.Orders.{makers_so}
+use Rattle.law_accounts.proofs.StopsSeen.{stops_seen}
 use Rattle.law_accounts.proofs.Turned.{turned_there}
 use Rattle.law_accounts.proofs.Within.{turns_within}
 use Rattle.law_accounts.specs.Account.{Account, ComesToEnd, GoesAlong, IsDone, NoneCollects, Stand, beside}
@@ -204,7 +205,7 @@ module _ (asked : Asked) (ran : Ran) (stand : Line → Stand) (line : Line) (hol
       by_order (Some order) so = (so, has_seen_all order door entry.front (line_of line) front_is)
 
   along : GoesAlong view
-  along = goes_along view goes ?
+  along = goes_along view goes (stops_seen asked ran stand line node.number entry driven.account driven.may.among front_is (turned ∙ sym its_turns))
 
   none_collects : NoneCollects asked stand added
   none_collects other listed collects = absurd (true≢false (sym collects ∙ no_collection other.order (all other listed)))
