@@ -45,6 +45,13 @@ module _ (by : By) where
       let parts = and_parts (strange entry.by) (list_all strange (map (λ (e : OfficeEntry). e.by) office)) none in
       none_taken (same_line by entry.by) _ (office_turns by (before ++ entry ∷ []) office) (not-true (same_line by entry.by) parts.0) ∙ office_none (before ++ entry ∷ []) office parts.1
 
+  -- nor in the history of a node
+  pub nodes_strange : (ran : Ran) → IsTrue (list_all (list_all strange) (makers ran)) → IsTrue (list_all (list_all strange) (map (map (λ (e : NodeEntry). e.by)) ran.trace.nodes))
+  nodes_strange ran none =
+      let first = and_parts (list_all strange (map (λ (e : DoorEntry). e.by) ran.trace.door)) _ none in
+      let second = and_parts (list_all strange (map (λ (e : OfficeEntry). e.by) ran.trace.office)) _ first.1 in
+      (and_parts (list_all (list_all strange) (map (map (λ (e : NodeEntry). e.by)) ran.trace.nodes)) (list_all (list_all strange) (map (map (λ (e : MailEntry). e.by)) ran.mail)) (sym (list_all-append (list_all strange) (map (map (λ (e : NodeEntry). e.by)) ran.trace.nodes) (map (map (λ (e : MailEntry). e.by)) ran.mail)) ∙ second.1)).0
+
   pub turns_none : (ran : Ran) → IsTrue (list_all (list_all strange) (makers ran)) → turns by ran.trace ≡ []
   turns_none ran none =
       let first = and_parts (list_all strange (map (λ (e : DoorEntry). e.by) ran.trace.door)) _ none in

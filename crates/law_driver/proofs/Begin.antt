@@ -12,12 +12,13 @@ use Rattle.aft_lines.specs.Lines.{hold_before, lines}
 use Rattle.aft_lines.specs.Views.{view_of}
 use Rattle.aft_turns.specs.Trail.{no_trail}
 use Rattle.law_accounts.proofs.GoesOn.{same_is}
-use Rattle.law_accounts.proofs.Idle.{entries_none, mail_none, turns_none}
+use Rattle.law_accounts.proofs.Idle.{entries_none, mail_none, nodes_strange, turns_none}
 use Rattle.law_accounts.specs.Account.{Account, ComesToEnd, IsDone, MayGoOn, Runs, Stand, Waits, has_made_nothing}
 use Rattle.law_claims.proofs.Scenes.{by_itself}
-use Rattle.law_driver.specs.Driven.{Driven, RanksLast, is_at_one_node}
+use Rattle.law_driver.specs.Driven.{Driven, RanksLast, is_at_one_node, node_of}
 use Rattle.law_driver.specs.Kept.{with_stand}
 use Rattle.law_driver.proofs.Along.{lesser_differs}
+use Rattle.law_driver.proofs.Closing.{none_at_number}
 
 module _ (asked : Asked) (ran : Ran) (stand : Line → Stand) (line : Line) (account : Account asked ran stand) (may : MayGoOn asked stand line) (waits : stand line ≡ Waits) where
   abbrev later : Line → Stand
@@ -99,6 +100,7 @@ module _ (asked : Asked) (ran : Ran) (stand : Line → Stand) (line : Line) (acc
         runs = its_own line (by_itself (line_of line));
         kind = kind;
         own = turns_none (line_of line) ran nothing;
+        closing = none_at_number (line_of line) (node_of line.order hold) 1 ran.trace.nodes (nodes_strange (line_of line) ran nothing);
         sees = record { own = entries_none (line_of line) ran nothing; places = tt };
         looked = (ran.trace.door, refl);
         held = held;

@@ -30,12 +30,13 @@ use Rattle.law_accounts.specs.Account.{Account, GoesAlong, Stand}
 use Rattle.law_accounts.specs.Adding.{AddsAtDoor, Added, ComesAsOrdered, Follows, comes_in, maker_of, with_added}
 use Rattle.law_accounts.specs.Turned.{is_at_node_or_door, turned_by}
 use Rattle.law_grows.specs.Reach.{is_within}
-use Rattle.law_driver.specs.Driven.{Driven, Promises, ranks_in}
+use Rattle.law_driver.specs.Driven.{Driven, Promises, node_of, ranks_in}
 use Rattle.law_driver.specs.Kept.{door_entry}
 use Rattle.law_driver.proofs.Along.{goes_along, own_hold_same}
+use Rattle.law_driver.proofs.Closing.{act_at_door}
 use Rattle.law_driver.proofs.NeverStops.{stops_not}
 use Rattle.law_driver.proofs.Node.{ranked_so}
-use Rattle.law_driver.proofs.Rights.{no_collection, node_of, right_backed, right_parts, right_place}
+use Rattle.law_driver.proofs.Rights.{no_collection, right_backed, right_parts, right_place}
 use Rattle.law_driver.proofs.Seeing.{sees_door}
 
 -- what a line has looked at is a beginning of a history with more
@@ -66,6 +67,7 @@ module _ (asked : Asked) (ran : Ran) (stand : Line → Stand) (line : Line) (hol
     kind = driven.kind;
     own = driven.own;
     sees = driven.sees;
+    closing = driven.closing;
     looked = ([], sym (append-nil door));
     held = driven.held;
     quiet = driven.quiet;
@@ -137,6 +139,7 @@ module _ (asked : Asked) (ran : Ran) (stand : Line → Stand) (line : Line) (hol
       kind = driven.kind;
       own = turned;
       sees = sees_door (line_of line) trail.turns act door driven.sees;
+      closing = driven.closing ∙ sym (act_at_door trail.turns (length door) act);
       looked = looked_more trail.look door (door_entry line act) driven.looked;
       held = held_same ∙ driven.held;
       quiet = driven.quiet;

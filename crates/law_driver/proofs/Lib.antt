@@ -1,4 +1,5 @@
 pub mod Seeing
+pub mod Closing
 pub mod Rights
 pub mod Along
 pub mod NeverStops

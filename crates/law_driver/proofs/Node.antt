@@ -2,7 +2,7 @@
 use Rattle.std.proofs.Common.{◌≡◌, ◌≤◌, ◌<◌, ℕ, Bool, true, false, ◌||◌, not, List, [], ◌∷◌, ◌++◌, take, drop, refl, sym, subst, ap, ◌∙◌, inl, inr, arith, eqb, append-nil}
 use Rattle.std.specs.Prelude.{IsFalse, IsTrue, None, Option, Some, if◌then◌else◌, length, max, nat_le, nat_lt}
 use Rattle.std.specs.List.{flat_map, fold, last_or, list_all}
-use Rattle.std.proofs.lemmas.Bool.{and_from, and_parts, cases_Bool, eqb-true, le-leb, or_left, or_right, true≢false}
+use Rattle.std.proofs.lemmas.Bool.{and_from, and_parts, cases_Bool, eqb-true, le-leb, leb-true, true≢false}
 use Rattle.std.proofs.lemmas.List.Concat.{flat_map-append}
 use Rattle.std.proofs.lemmas.List.Folds.{list_all-append}
 use Rattle.aft_model.specs.declared.caller.By.{By}
@@ -28,6 +28,7 @@ use Rattle.aft_lines.specs.Makes.{makes}
 use Rattle.aft_lines.specs.RunsSoFar.{is_stopped_rightly, position_of}
 use Rattle.aft_lines.specs.Turns.{AtDoor, AtNode, AtOffice, Turn, end_front, front_in, turns}
 use Rattle.aft_lines.specs.Views.{view_of}
+use Rattle.aft_node.specs.Closing.{last_own}
 use Rattle.aft_turns.specs.Stands.{EndsRightly, GoesRightly, HasLooked, RanSo, is_right, sees}
 use Rattle.aft_turns.specs.Steps.{entry_of}
 use Rattle.aft_turns.specs.Trail.{Trail, behind}
@@ -43,10 +44,11 @@ use Rattle.law_accounts.specs.Turned.{is_at_node_or_door, is_past, turn_by, turn
 use Rattle.law_claims.proofs.Scenes.{by_itself}
 use Rattle.law_grows.proofs.Positions.{end_within}
 use Rattle.law_grows.specs.Reach.{is_within}
-use Rattle.law_driver.specs.Driven.{AllAtOneNode, Driven, IsNode, Promises, RanksLast, is_at_one_node, ranks_in, reads_clock}
+use Rattle.law_driver.specs.Driven.{AllAtOneNode, Driven, IsNode, Promises, RanksLast, last_act, node_of, ranks_in, reads_clock}
 use Rattle.law_driver.specs.Kept.{StandsNow, behind_node, with_node, with_stand}
 use Rattle.law_driver.proofs.Along.{goes_along, own_hold_same}
-use Rattle.law_driver.proofs.Rights.{no_collection, node_of, quiet_mail, right_parts, right_place}
+use Rattle.law_driver.proofs.Closing.{act_at_node, last_with_own, numbered_more}
+use Rattle.law_driver.proofs.Rights.{no_collection, quiet_mail, right_parts, right_place}
 use Rattle.law_driver.proofs.Seeing.{fold_last, last_is, sees_node}
 
 -- ---- orders
@@ -210,6 +212,21 @@ module _ (asked : Asked) (ran : Ran) (stand : Line → Stand) (line : Line) (hol
   none_collects : NoneCollects asked stand added
   none_collects other listed collects = absurd (true≢false (sym collects ∙ no_collection other.order (all other listed)))
 
+  -- its last act at its node is this
+  closes_now : last_own (line_of line) (numbered_in (node_of line.order hold) 1 new.trace.nodes) ≡ last_act next.turns
+  closes_now =
+      ap (λ n. last_own (line_of line) (numbered_in n 1 new.trace.nodes)) (sym here)
+      ∙ ap (last_own (line_of line)) (numbered_more node.number 1 entry ran.trace.nodes (leb-true 1 node.number there.0) (let high = leb-true node.number (length ran.trace.nodes) there.1 in omega arith))
+      ∙ last_with_own (line_of line) (numbered_in node.number 1 ran.trace.nodes) entry (by_itself (line_of line)) ∙ sym (act_at_node trail.turns node.number node.history entry)
+    where
+      there : IsTrue (nat_le 1 node.number) × IsTrue (nat_le node.number (length ran.trace.nodes))
+      there = and_parts (nat_le 1 node.number) (nat_le node.number (length ran.trace.nodes)) is_node.there
+
+      here : node.number ≡ node_of line.order hold
+      here =
+          eqb-true node.number (node_of line.order hold)
+          (right_place line.order hold (AtNode node.number node.history entry) driven.kind (all_at (is_right line.order hold) (AtNode node.number node.history entry) next.turns (in_back (AtNode node.number node.history entry) trail.turns (AtNode node.number node.history entry ∷ []) (inl refl)) right_turns))
+
   -- ---- how it stands
 
   runs_still : done ≡ false → Driven asked new stand line hold next
@@ -220,6 +237,7 @@ module _ (asked : Asked) (ran : Ran) (stand : Line → Stand) (line : Line) (hol
     kind = driven.kind;
     own = turned;
     sees = sees_node (line_of line) trail.turns node.number node.history entry door driven.sees;
+    closing = closes_now;
     looked = driven.looked;
     held = held_same ∙ driven.held;
     quiet = driven.quiet;

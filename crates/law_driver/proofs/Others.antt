@@ -10,13 +10,15 @@ use Rattle.aft_model.specs.Opening.{opening}
 use Rattle.aft_model.specs.ScanRun.{same_line}
 use Rattle.aft_lines.specs.Asked.{Asked, Ran}
 use Rattle.aft_lines.specs.FinishedText.{line_of}
+use Rattle.aft_node.specs.Closing.{last_own}
 use Rattle.aft_turns.specs.Stands.{SeesOwn}
 use Rattle.aft_turns.specs.Trail.{Trail}
 use Rattle.law_accounts.proofs.Others.{office_first, turns_same}
 use Rattle.law_accounts.proofs.Views.{hold_same}
 use Rattle.law_accounts.specs.Account.{Account, IsDone, MayGoOn, Runs, Stand, Waits}
-use Rattle.law_accounts.specs.Adding.{AddsAtBox, AddsAtDoor, AddsAtNode, AddsAtOffice, Added, maker_of, with_added}
-use Rattle.law_driver.specs.Driven.{Driven, RanksLast}
+use Rattle.law_accounts.specs.Adding.{AddsAtBox, AddsAtDoor, AddsAtNode, AddsAtOffice, Added, maker_of, numbered_in, with_added}
+use Rattle.law_driver.specs.Driven.{Driven, RanksLast, last_act, node_of}
+use Rattle.law_driver.proofs.Closing.{last_with_other, numbered_either}
 use Rattle.law_driver.proofs.Door.{looked_more}
 use Rattle.law_driver.proofs.Seeing.{sees_other}
 
@@ -52,6 +54,15 @@ module _ (asked : Asked) (ran : Ran) (stand later : Line → Stand) (line other 
   looked_still (AddsAtOffice entry) = driven.looked
   looked_still (AddsAtBox box entry) = driven.looked
 
+  closes_still : (one : Added) → IsFalse (same_line (line_of line) (maker_of one)) → last_own (line_of line) (numbered_in (node_of line.order hold) 1 (with_added one ran).trace.nodes) ≡ last_act trail.turns
+  closes_still (AddsAtDoor entry) apart = driven.closing
+  closes_still (AddsAtNode node entry) apart = elim (numbered_either (node_of line.order hold) node 1 entry ran.trace.nodes) [
+    | inl more ↦ ap (last_own (line_of line)) more ∙ last_with_other (line_of line) (numbered_in (node_of line.order hold) 1 ran.trace.nodes) entry apart ∙ driven.closing
+    | inr same ↦ ap (last_own (line_of line)) same ∙ driven.closing
+  ]
+  closes_still (AddsAtOffice entry) apart = driven.closing
+  closes_still (AddsAtBox box entry) apart = driven.closing
+
   pub stays : Account asked (with_added added ran) later → MayGoOn asked later line → later line ≡ Runs → RanksLast asked (with_added added ran) (line_of line) → Driven asked (with_added added ran) later line hold trail
   stays account may_still runs ranked = record {
     account = account;
@@ -60,6 +71,7 @@ module _ (asked : Asked) (ran : Ran) (stand later : Line → Stand) (line other 
     kind = driven.kind;
     own = turns_same (line_of line) ran added strange ∙ driven.own;
     sees = sees_still added strange;
+    closing = closes_still added strange;
     looked = looked_still added;
     held = hold_same asked ran added line none_before stranger ∙ driven.held;
     quiet = office_first (line_of line) ran added strange ∙ driven.quiet;

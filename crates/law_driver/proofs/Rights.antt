@@ -22,7 +22,7 @@ use Rattle.aft_lines.specs.Makes.{makes, makes_at_door, makes_at_node, makes_at_
 use Rattle.aft_lines.specs.Turns.{AtDoor, AtNode, AtOffice, Turn}
 use Rattle.aft_turns.specs.Stands.{is_right}
 use Rattle.law_accounts.specs.Turned.{is_at_node_or_door}
-use Rattle.law_driver.specs.Driven.{is_at_one_node}
+use Rattle.law_driver.specs.Driven.{is_at_one_node, node_of}
 
 -- what a right turn is
 pub right_parts : (command : Command) (hold : Hold) (turn : Turn) → IsTrue (is_right command hold turn)
@@ -33,13 +33,7 @@ right_parts command hold turn right =
     let one = and_parts (makes command turn) (turn_words command turn) two.0 in
     (one.0, one.1, two.1, three.1)
 
--- the line's node
-abbrev pub number_in : Option ℕ → ℕ
-number_in (Some node) = node
-number_in None = 0
-
-abbrev pub node_of : Command → Hold → ℕ
-node_of command hold = number_in (named_node command hold)
+-- ---- by the command
 
 named_is : (command : Command) (hold : Hold) → IsTrue (is_at_one_node command) → named_node command hold ≡ Some (node_of command hold)
 named_is (commands.Begin uuid node) hold kind = refl

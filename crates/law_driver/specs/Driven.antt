@@ -1,10 +1,11 @@
 -- A line that its machine runs on one thread, and what the machine promises.
 use Rattle.std.specs.Prelude.{Bool, IsFalse, IsTrue, List, None, Option, Some, [], false, length, max, nat_le, true, ℕ, ◌&&◌, ◌++◌, ◌≡◌, ◌≤◌}
-use Rattle.std.specs.List.{list_all}
+use Rattle.std.specs.List.{fold, list_all}
 use Rattle.aft_model.proofs.Histories.{In}
 use Rattle.aft_model.specs.declared.caller.By.{By}
 use Rattle.aft_model.specs.declared.caller.Hold.{Hold}
 use Rattle.aft_model.specs.declared.door.DoorEntry.{DoorEntry}
+use Rattle.aft_model.specs.declared.node.NodeAct.{NodeAct}
 use Rattle.aft_model.specs.declared.script.Command.{Command}
 use Rattle.aft_model.specs.declared.script.Command.TheVariants as commands
 use Rattle.aft_model.specs.declared.script.Line.{Line}
@@ -12,11 +13,12 @@ use Rattle.aft_model.specs.LegalNode.{LegalNode}
 use Rattle.aft_ledger.specs.View.{NodeView}
 use Rattle.aft_lines.specs.Asked.{Asked, Ran}
 use Rattle.aft_lines.specs.FinishedText.{line_of}
-use Rattle.aft_lines.specs.LegalTrace.{act_at}
+use Rattle.aft_lines.specs.LegalTrace.{act_at, named_node}
 use Rattle.aft_lines.specs.LinePosts.{from_office}
 use Rattle.aft_lines.specs.LineView.{LineView}
 use Rattle.aft_lines.specs.Lines.{hold_before, lines, whole_order}
 use Rattle.aft_lines.specs.Turns.{AtNode, Turn, turns}
+use Rattle.aft_node.specs.Closing.{last_own}
 use Rattle.aft_turns.specs.Stands.{EndsRightly, GoesRightly, HasLooked, RanSo, SeesOwn, last_sees}
 use Rattle.aft_turns.specs.Trail.{Trail}
 use Rattle.law_accounts.specs.Account.{Account, MayGoOn, Runs, Stand}
@@ -58,7 +60,23 @@ ranks_in ran by (Some order) = IsTrue (ranks_last order by ran)
 abbrev pub RanksLast : Asked → Ran → By → Type 0
 RanksLast asked ran by = ranks_in ran by (whole_order asked) × IsTrue (ranks_last asked.asks by ran)
 
--- a line that runs, in a run that has an account: its turns are those of this trail, which has looked at the door as it was; its client holds this; and it did nothing at the boxes
+-- the node of a line
+abbrev pub number_in : Option ℕ → ℕ
+number_in (Some node) = node
+number_in None = 0
+
+abbrev pub node_of : Command → Hold → ℕ
+node_of command hold = number_in (named_node command hold)
+
+-- what the last of some turns at a node did
+abbrev pub act_behind : Option NodeAct → Turn → Option NodeAct
+act_behind before (AtNode node history entry) = Some entry.act
+act_behind before turn = before
+
+abbrev pub last_act : List Turn → Option NodeAct
+last_act line = fold act_behind None line
+
+-- a line that runs, in a run that has an account: its turns are those of this trail, which has looked at the door as it was, and what it did at the door and last at its node is what they did; its client holds this; and it did nothing at the boxes
 pub record Driven (asked : Asked) (ran : Ran) (stand : Line → Stand) (line : Line) (hold : Hold) (trail : Trail) : Type 0 where
   pub account : Account asked ran stand
   pub may : MayGoOn asked stand line
@@ -66,6 +84,7 @@ pub record Driven (asked : Asked) (ran : Ran) (stand : Line → Stand) (line : L
   pub kind : IsTrue (is_at_one_node line.order)
   pub own : turns (line_of line) ran.trace ≡ trail.turns
   pub sees : SeesOwn (line_of line) trail.turns ran.trace.door
+  pub closing : last_own (line_of line) (numbered_in (node_of line.order hold) 1 ran.trace.nodes) ≡ last_act trail.turns
   pub looked : (rest : List DoorEntry) × (ran.trace.door ≡ trail.look ++ rest)
   pub held : hold_before (lines asked) ran.trace line ≡ hold
   pub quiet : from_office (line_of line) ran.mail ≡ []
