@@ -5,6 +5,7 @@ use Rattle.std.proofs.lemmas.Bool.{and_from, eq-eqb, eqb-true, false_from_ne_tru
 use Rattle.aft_model.specs.declared.caller.Attempt.{Attempt}
 use Rattle.aft_model.specs.declared.caller.By.{By}
 use Rattle.aft_model.specs.declared.caller.Hold.{Hold}
+use Rattle.aft_model.specs.declared.node.NodeAct.{NodeAct}
 use Rattle.aft_model.specs.declared.node.NodeAct.TheVariants as acts
 use Rattle.aft_model.specs.declared.node.NodeEntry.{NodeEntry}
 use Rattle.aft_model.specs.declared.reply.Reply.{Reply}
@@ -20,16 +21,18 @@ use Rattle.aft_model.proofs.Sights.{bytes_eq-refl}
 use Rattle.aft_lines.specs.Causes.{Caused}
 use Rattle.aft_lines.specs.CausesAttempts.{state_in}
 use Rattle.aft_lines.specs.CausesBegins.{has_attempt, has_opened, has_opening}
+use Rattle.aft_lines.specs.LegalTrace.{node_words}
 use Rattle.aft_lines.specs.LineView.{LineView}
 use Rattle.aft_lines.specs.Advance.{is_led_to_end}
 use Rattle.aft_lines.specs.Lines.{attempt_of}
+use Rattle.aft_lines.specs.Makes.{makes_at_node}
 use Rattle.aft_lines.specs.RunsSoFar.{position_of}
 use Rattle.law_attempts.proofs.Lives.{lives}
 use Rattle.law_attempts.proofs.Standing.{Standing}
 use Rattle.law_attempts.proofs.Tables.{row_of_uuid}
 use Rattle.aft_node.specs.Beginning.{admit_refusal, begin_refusal_by, forget_refusal_by, found_row, joined_go, refused_go, serving_inc}
 use Rattle.aft_node.specs.declared.goes.AdmitGo.TheVariants as goes
-use Rattle.aft_turns.specs.Stands.{EndsRightly, GoesRightly}
+use Rattle.aft_turns.specs.Stands.{EndsRightly, GoesRightly, is_right}
 use Rattle.aft_turns.proofs.Views.{with_words}
 use Rattle.aft_begin.specs.declared.aim.Aim.{Aim}
 use Rattle.aft_begin.specs.declared.aim.Aim.TheVariants as aims
@@ -193,6 +196,14 @@ pub given_once : (aim : Aim) (by : By) (node : ℕ) (uuid : List ℕ) (capacity 
 given_once aims.Begin by node uuid capacity before front legal reply given at_once = given_begin by node uuid capacity before front legal reply given at_once
 given_once aims.Forget by node uuid capacity before front legal reply given at_once = by_forget node capacity uuid before legal (λ told. attempt_of (turn_at by node before front acts.Nothing (Some told) ∷ []) ≡ None) refl (λ none. refl) (λ s row in_it is. refl) reply at_once.0 ∙ sym at_once.1
 
+-- ---- its turn
+
+-- a turn at the node that such a line names, of its words
+pub right_at : (aim : Aim) (by : By) (node : ℕ) (uuid : List ℕ) (hold : Hold) (before : List NodeEntry) (front : ℕ) (act : NodeAct) (answer : Option Reply) → IsTrue (makes_at_node (asks aim uuid node) act) → IsTrue (node_words (asks aim uuid node) act)
+    → IsTrue (is_right (asks aim uuid node) hold (turn_at by node before front act answer))
+right_at aims.Begin by node uuid hold before front act answer made carries = and_from _ _ (and_from _ _ (and_from _ _ made carries) (eq-eqb node node refl)) refl
+right_at aims.Forget by node uuid hold before front act answer made carries = and_from _ _ (and_from _ _ (and_from _ _ made carries) (eq-eqb node node refl)) refl
+
 -- ---- its cause
 
 module _ (by : By) (node : ℕ) (uuid : List ℕ) (hold : Hold) (view : LineView) (capacity : ℕ) (before : List NodeEntry) (front : ℕ) (legal : LegalNode node capacity before) where
@@ -235,8 +246,8 @@ module _ (by : By) (node : ℕ) (uuid : List ℕ) (hold : Hold) (view : LineView
       (any_from (λ (b : Attempt). not (is_opening (state_in b s))) a (present_of uuid s.part) is.among (ap not (ap is_opening (sym is.state) ∙ opens))))
 
   pub goes_once : (aim : Aim) (reply : Reply) → GoesRightly (ran aim reply)
-  goes_once aims.Begin reply = record { leads = refl; makes = refl; speaks = refl }
-  goes_once aims.Forget reply = record { leads = refl; makes = refl; speaks = refl }
+  goes_once aims.Begin reply = record { leads = refl; right = and_from _ _ (right_at aims.Begin by node uuid hold before front acts.Nothing (Some reply) refl refl) refl }
+  goes_once aims.Forget reply = record { leads = refl; right = and_from _ _ (right_at aims.Forget by node uuid hold before front acts.Nothing (Some reply) refl refl) refl }
 
   caused_once : (aim : Aim) (reply : Reply) (given : Option Attempt) → AnswersAtOnce aim node uuid before reply given → Caused (ran aim reply) reply
   caused_once aims.Begin reply given at_once = by_answer node capacity uuid before legal (λ r its. Caused (ran aims.Begin r) r) refl (down aims.Begin) (λ s row in_it is_there opens. busy s row (record { node = node; inc = s.inc; number = row.number }) in_it is_there opens) (λ s row in_it is_there opens. joined s row (record { node = node; inc = s.inc; number = row.number }) in_it is_there opens) reply given at_once

@@ -1,5 +1,5 @@
 -- What stands of a line that claims a UUID by the turns that it has made.
-use Rattle.std.proofs.Common.{◌≡◌, ◌≤◌, ◌⊎◌, ℕ, Bool, true, false, ◌&&◌, not, List, [], ◌∷◌, ◌++◌, refl, sym, ap, subst, ◌∙◌, inl, inr, arith}
+use Rattle.std.proofs.Common.{◌≡◌, ◌≤◌, ◌⊎◌, ℕ, Bool, true, false, ◌&&◌, List, [], ◌∷◌, ◌++◌, refl, sym, ap, subst, ◌∙◌, inl, inr, arith}
 use Rattle.std.specs.Prelude.{IsTrue, None, Option, Some, if◌then◌else◌, take}
 use Rattle.std.specs.List.{flat_map, list_all, list_any}
 use Rattle.std.proofs.lemmas.Bool.{and_from, and_parts, false≢true, or_cases, or_left, or_right}
@@ -34,15 +34,13 @@ use Rattle.aft_model.proofs.Sights.{bytes_eq-refl}
 use Rattle.aft_model.proofs.Growth.{given_grows}
 use Rattle.aft_lines.specs.Advance.{is_led_to_end}
 use Rattle.aft_lines.specs.Causes.{Caused}
-use Rattle.aft_lines.specs.CausesAttempts.{speaks_of_attempt}
 use Rattle.aft_lines.specs.CourseWords.{caller_of}
 use Rattle.aft_lines.specs.LineCourse.{answers_last}
 use Rattle.aft_lines.specs.LineView.{LineView, door_entry_in, ends_of, last_front}
 use Rattle.aft_lines.specs.Lines.{attempt_of, node_numbers}
-use Rattle.aft_lines.specs.Makes.{makes}
 use Rattle.aft_lines.specs.RunsSoFar.{position_of}
-use Rattle.aft_lines.specs.Turns.{Turn, answer_in}
-use Rattle.aft_turns.specs.Stands.{EndsRightly, GoesRightly, HasLooked, IsUnanswered, RanSo, SeesOwn, end_answer, last_sees, sees}
+use Rattle.aft_lines.specs.Turns.{AtDoor, Turn, answer_in}
+use Rattle.aft_turns.specs.Stands.{EndsRightly, GoesRightly, HasLooked, IsUnanswered, RanSo, SeesOwn, end_answer, is_right, last_sees, sees}
 use Rattle.aft_turns.specs.Trail.{Trail}
 use Rattle.aft_turns.specs.declared.turn.Where.TheVariants as places
 use Rattle.aft_turns.proofs.Closed.{led_is_some}
@@ -56,12 +54,12 @@ use Rattle.aft_begin.specs.declared.stage.Stage.TheVariants.{Begins, Claims, End
 use Rattle.aft_begin.specs.Made.{Admits, Closes, Closing, EndedAtOnce, EndedLater, HasCome, IsBegun, IsDown, IsGivenBack, begun_turns, closing_act, closing_gives, closing_reply, knows_at, made_at, turn_at}
 use Rattle.aft_begin.specs.Seen.{told}
 use Rattle.aft_begin.specs.View.{asks, given_at, left_at, next_at}
-use Rattle.aft_begin.specs.Way.{Claimed, Deleted, FitsWay, IsUnused, LookedForMarker, LookedForRecord, MustLetGo, Unclaimed, Way, claim_act, look_act}
+use Rattle.aft_begin.specs.Way.{Claimed, Deleted, FitsWay, IsUnused, LookedForMarker, LookedForRecord, MustLetGo, Unclaimed, Way, claim_act, look_act, release_turns, way_turns}
 use Rattle.aft_begin.proofs.Aims.{aims_apart}
 use Rattle.aft_begin.proofs.Caused.{closing_caused, entries_of, seen_at_last, unused_known}
 use Rattle.aft_begin.proofs.Leads.{goes_on, led_to_end}
 use Rattle.aft_begin.proofs.Shown.{short_shown}
-use Rattle.aft_begin.proofs.Once.{ends_once, given_once, goes_once}
+use Rattle.aft_begin.proofs.Once.{ends_once, given_once, goes_once, right_at}
 
 pub done_is : (node : ℕ) (stage : Stage) → next_at node stage ≡ places.Done → (P : Stage → Type 0) → ((given : Option Attempt) → P (Ended given)) → P stage
 done_is node (Ended given) done P ended = ended given
@@ -107,11 +105,6 @@ unused_begins aim (Claimed p) release unused = absurd unused
 unused_begins aim (LookedForRecord p q answer) release unused = absurd unused
 unused_begins aim (Deleted p q r bytes id at answer) release unused = absurd unused
 
--- neither speaks of an attempt that its client holds
-speaks_not : (aim : Aim) (uuid : List ℕ) (node : ℕ) → speaks_of_attempt (asks aim uuid node) ≡ false
-speaks_not Begin uuid node = refl
-speaks_not Forget uuid node = refl
-
 module _ (aim : Aim) (by : By) (node : ℕ) (uuid : List ℕ) (a : Attempt) where
   -- the turns that it has made
   abbrev come_turns : List NodeEntry → ℕ → Way → Option ℕ → List Turn
@@ -126,44 +119,52 @@ module _ (aim : Aim) (by : By) (node : ℕ) (uuid : List ℕ) (a : Attempt) wher
 
   -- ---- each turn
 
-  made_rightly : (before : List NodeEntry) (front : ℕ) (way : Way) (release : Option ℕ) → FitsWay aim uuid way → IsTrue (list_all (makes asked) (come_turns before front way release))
-  made_rightly before front way release fits = by_aim aim way release fits
-    where
-      by_aim : (which : Aim) (w : Way) (l : Option ℕ) → FitsWay which uuid w → IsTrue (list_all (makes (asks which uuid node)) (come_turns before front w l))
-      by_aim Begin Unclaimed None fits = refl
-      by_aim Forget Unclaimed None fits = refl
-      by_aim Begin Unclaimed (Some place) fits = refl
-      by_aim Forget Unclaimed (Some place) fits = refl
-      by_aim Begin (Claimed p) None fits = refl
-      by_aim Forget (Claimed p) None fits = refl
-      by_aim Begin (Claimed p) (Some place) fits = refl
-      by_aim Forget (Claimed p) (Some place) fits = refl
-      by_aim Begin (LookedForRecord p q answer) None fits = refl
-      by_aim Forget (LookedForRecord p q answer) None fits = refl
-      by_aim Begin (LookedForRecord p q answer) (Some place) fits = refl
-      by_aim Forget (LookedForRecord p q answer) (Some place) fits = refl
-      by_aim Begin (LookedForMarker p q r answer) None fits = refl
-      by_aim Forget (LookedForMarker p q r answer) None fits = refl
-      by_aim Begin (LookedForMarker p q r answer) (Some place) fits = refl
-      by_aim Forget (LookedForMarker p q r answer) (Some place) fits = refl
-      by_aim Begin (Deleted p q r bytes id at answer) None (is, shown) = absurd (aims_apart is)
-      by_aim Forget (Deleted p q r bytes id at answer) None fits = refl
-      by_aim Begin (Deleted p q r bytes id at answer) (Some place) (is, shown) = absurd (aims_apart is)
-      by_aim Forget (Deleted p q r bytes id at answer) (Some place) fits = refl
+  module _ (hold : Hold) where
+    -- each of some turns is one of such a line
+    abbrev AreRight : Aim → List Turn → Type 0
+    AreRight which turns = IsTrue (list_all (is_right (asks which uuid node) hold) turns)
 
-  last_made : (last_before : List NodeEntry) (last_at : ℕ) (front : ℕ) (look : List DoorEntry) (way : Way) (release : Option ℕ) (closing : Closing) → Closes aim front a uuid look way release last_before closing → IsTrue (list_all (makes asked) (turn_at by node last_before last_at (closing_act a closing) (Some (closing_reply a uuid closing)) ∷ []))
-  last_made last_before last_at front look way release closing closes = by_aim aim closing closes
-    where
-      run_so : (which : Aim) → which ≡ Begin → IsTrue (list_all (makes (asks which uuid node)) (turn_at by node last_before last_at (acts.Begin a) (Some (replies.Begun uuid)) ∷ []))
-      run_so Begin is = refl
-      run_so Forget is = absurd (aims_apart (sym is))
+    admit_right : (which : Aim) (before : List NodeEntry) (front : ℕ) → IsTrue (is_right (asks which uuid node) hold (turn_at by node before front (acts.Admit a uuid) None))
+    admit_right Begin before front = right_at Begin by node uuid hold before front (acts.Admit a uuid) None refl (bytes_eq-refl uuid)
+    admit_right Forget before front = right_at Forget by node uuid hold before front (acts.Admit a uuid) None refl (bytes_eq-refl uuid)
 
-      by_aim : (which : Aim) (end : Closing) → Closes which front a uuid look way release last_before end → IsTrue (list_all (makes (asks which uuid node)) (turn_at by node last_before last_at (closing_act a end) (Some (closing_reply a uuid end)) ∷ []))
-      by_aim which IsBegun (unused, same) = run_so which (unused_begins which way release unused)
-      by_aim Begin (IsGivenBack reply) closes = refl
-      by_aim Forget (IsGivenBack reply) closes = refl
-      by_aim Begin IsDown closes = refl
-      by_aim Forget IsDown closes = refl
+    claim_right : (which : Aim) (p : ℕ) → IsTrue (is_right (asks which uuid node) hold (AtDoor p (claim_act a uuid)))
+    claim_right Begin p = and_from _ _ (and_from _ _ (bytes_eq-refl uuid) refl) refl
+    claim_right Forget p = and_from _ _ (and_from _ _ (bytes_eq-refl uuid) refl) refl
+
+    way_right : (which : Aim) (way : Way) → FitsWay which uuid way → AreRight which (way_turns a uuid way)
+    way_right which Unclaimed fits = refl
+    way_right which (Claimed p) fits = and_from _ _ (claim_right which p) refl
+    way_right Begin (LookedForRecord p q answer) fits = and_from _ _ (claim_right Begin p) refl
+    way_right Forget (LookedForRecord p q answer) fits = and_from _ _ (claim_right Forget p) refl
+    way_right Begin (LookedForMarker p q r answer) fits = and_from _ _ (claim_right Begin p) refl
+    way_right Forget (LookedForMarker p q r answer) fits = and_from _ _ (claim_right Forget p) refl
+    way_right Begin (Deleted p q r bytes id at answer) (is, shown) = absurd (aims_apart is)
+    way_right Forget (Deleted p q r bytes id at answer) fits = and_from _ _ (claim_right Forget p) refl
+
+    release_right : (which : Aim) (release : Option ℕ) → AreRight which (release_turns a uuid release)
+    release_right which None = refl
+    release_right Begin (Some place) = refl
+    release_right Forget (Some place) = refl
+
+    come_right : (before : List NodeEntry) (front : ℕ) (way : Way) (release : Option ℕ) → FitsWay aim uuid way → AreRight aim (come_turns before front way release)
+    come_right before front way release fits =
+        and_from _ _ (admit_right aim before front)
+        (list_all-append (is_right asked hold) (way_turns a uuid way) (release_turns a uuid release) ∙ and_from _ _ (way_right aim way fits) (release_right aim release))
+
+    last_right : (last_before : List NodeEntry) (last_at : ℕ) (front : ℕ) (look : List DoorEntry) (way : Way) (release : Option ℕ) (closing : Closing) → Closes aim front a uuid look way release last_before closing → IsTrue (is_right asked hold (turn_at by node last_before last_at (closing_act a closing) (Some (closing_reply a uuid closing))))
+    last_right last_before last_at front look way release closing closes = by_aim aim closing closes
+      where
+        run_so : (which : Aim) → which ≡ Begin → IsTrue (is_right (asks which uuid node) hold (turn_at by node last_before last_at (acts.Begin a) (Some (replies.Begun uuid))))
+        run_so Begin is = right_at Begin by node uuid hold last_before last_at (acts.Begin a) (Some (replies.Begun uuid)) refl refl
+        run_so Forget is = absurd (aims_apart (sym is))
+
+        by_aim : (which : Aim) (end : Closing) → Closes which front a uuid look way release last_before end → IsTrue (is_right (asks which uuid node) hold (turn_at by node last_before last_at (closing_act a end) (Some (closing_reply a uuid end))))
+        by_aim which IsBegun (unused, same) = run_so which (unused_begins which way release unused)
+        by_aim Begin (IsGivenBack reply) closes = right_at Begin by node uuid hold last_before last_at (acts.Unadmit a) (Some reply) refl refl
+        by_aim Forget (IsGivenBack reply) closes = right_at Forget by node uuid hold last_before last_at (acts.Unadmit a) (Some reply) refl refl
+        by_aim Begin IsDown closes = right_at Begin by node uuid hold last_before last_at acts.Nothing (Some (replies.NodeDown a.node a.inc)) refl refl
+        by_aim Forget IsDown closes = right_at Forget by node uuid hold last_before last_at acts.Nothing (Some (replies.NodeDown a.node a.inc)) refl refl
 
   silent_so : (before : List NodeEntry) (front : ℕ) (way : Way) (release : Option ℕ) → IsTrue (list_all (λ turn. is_silent (answer_in turn)) (come_turns before front way release))
   silent_so before front Unclaimed None = refl
@@ -221,8 +222,7 @@ module _ (aim : Aim) (by : By) (node : ℕ) (uuid : List ℕ) (a : Attempt) wher
     on_so : (look : List DoorEntry) (way : Way) (release : Option ℕ) → FitsWay aim uuid way → ((place : ℕ) → release ≡ Some place → (reply : Reply) × MustLetGo aim a uuid look way reply) → GoesRightly (ran (come_turns before front way release))
     on_so look way release fits must = record {
       leads = goes_on aim node uuid (node_numbers view.settings) (ends_of (ran (come_turns before front way release))) by a admits.place before front look way release fits must;
-      makes = made_rightly before front way release fits;
-      speaks = or_left _ _ (ap not (speaks_not aim uuid node));
+      right = come_right hold before front way release fits;
     }
 
     module _ (look more : List DoorEntry) (way : Way) (release : Option ℕ) (last_before : List NodeEntry) (last_at : ℕ) (closing : Closing) (fits : FitsWay aim uuid way) (closes : Closes aim front a uuid look way release last_before closing) where
@@ -252,8 +252,7 @@ module _ (aim : Aim) (by : By) (node : ℕ) (uuid : List ℕ) (a : Attempt) wher
       goes_here : IsTrue (is_led_to_end (position_of (ran every))) → GoesRightly (ran every)
       goes_here led = record {
         leads = led_is_some (position_of (ran every)) led;
-        makes = list_all-append (makes asked) (come_turns before front way release) (turn_at by node last_before last_at (closing_act a closing) (Some (closing_reply a uuid closing)) ∷ []) ∙ and_from _ _ (made_rightly before front way release fits) (last_made last_before last_at front look way release closing closes);
-        speaks = or_left _ _ (ap not (speaks_not aim uuid node));
+        right = list_all-append (is_right asked hold) (come_turns before front way release) (turn_at by node last_before last_at (closing_act a closing) (Some (closing_reply a uuid closing)) ∷ []) ∙ and_from _ _ (come_right hold before front way release fits) (and_from _ _ (last_right hold last_before last_at front look way release closing closes) refl);
       }
 
   -- ---- what its last turn has seen at the door
@@ -357,8 +356,8 @@ module _ (aim : Aim) (by : By) (node : ℕ) (uuid : List ℕ) where
     goes_at_once given at_once = by_turns GoesRightly hold capacity trail view _ ran at_once.turns (goes_once by node uuid hold view at_once.capacity at_once.before at_once.front at_once.legal aim at_once.reply)
 
     nothing_done : (which : Aim) → GoesRightly (with_words (asks which uuid node) hold [] view)
-    nothing_done Begin = record { leads = refl; makes = refl; speaks = refl }
-    nothing_done Forget = record { leads = refl; makes = refl; speaks = refl }
+    nothing_done Begin = record { leads = refl; right = refl }
+    nothing_done Forget = record { leads = refl; right = refl }
 
     goes_on_so : Comes aim by node uuid trail → GoesRightly view
     goes_on_so (Nothing none) = by_turns GoesRightly hold capacity trail view [] ran none (nothing_done aim)
