@@ -187,11 +187,11 @@ module _ (asked : Asked) (ran : Ran) (stand : Line → Stand) (line : Line) (hol
   follows : Follows asked ran added
   follows = (
     subst (λ (h : List NodeEntry). IsTrue (is_legal_node node.number asked.settings.cache (h ++ entry ∷ []))) is_node.history
-    (subst (λ c. IsTrue (is_legal_node node.number c (node.history ++ entry ∷ []))) is_node.capacity legal),
+        (subst (λ c. IsTrue (is_legal_node node.number c (node.history ++ entry ∷ []))) is_node.capacity legal),
     and_from _ _ (le-leb entry.front (length door) (let e = front_is in omega arith))
-    (subst (λ (h : List NodeEntry). IsTrue (has_seen node.number (take entry.front door) entry.by h entry.act entry.answer)) is_node.history
-    (subst (λ (seen : List DoorEntry). IsTrue (has_seen node.number seen entry.by node.history entry.act entry.answer)) (sym (ap (λ n. take n door) front_is ∙ take_all door))
-    (sym (sees_last trail.turns node.number node.history entry door) ∙ promises.sees door (sees_node (line_of line) trail.turns node.number node.history entry door driven.sees)))),
+        (subst (λ (h : List NodeEntry). IsTrue (has_seen node.number (take entry.front door) entry.by h entry.act entry.answer)) is_node.history
+        (subst (λ (seen : List DoorEntry). IsTrue (has_seen node.number seen entry.by node.history entry.act entry.answer)) (sym (ap (λ n. take n door) front_is ∙ take_all door))
+        (sym (sees_last trail.turns node.number node.history entry door) ∙ promises.sees door (sees_node (line_of line) trail.turns node.number node.history entry door driven.sees)))),
     last_reads,
     (let low = end_within (length door) (turns opening ran.trace) (turns_within opening asked.settings.cache ran.trace driven.account.nodes driven.account.office) in let e = front_is in omega arith),
   )
@@ -247,11 +247,11 @@ module _ (asked : Asked) (ran : Ran) (stand : Line → Stand) (line : Line) (hol
   is_over : done ≡ true → Account asked new (with_stand line IsDone stand) × (turns (line_of line) new.trace ≡ next.turns)
   is_over over = (
     goes_on asked ran stand (with_stand line IsDone stand) line added driven.account driven.may refl follows ordered none_collects
-    (record {
-      others = λ other listed differs. ap (λ (b : Bool). if b then IsDone else stand other) differs;
-      goes = along;
-      now = inr (ap (λ (b : Bool). if b then IsDone else stand line) (by_itself (line_of line)), ended);
-    }),
+        (record {
+          others = λ other listed differs. ap (λ (b : Bool). if b then IsDone else stand other) differs;
+          goes = along;
+          now = inr (ap (λ (b : Bool). if b then IsDone else stand line) (by_itself (line_of line)), ended);
+        }),
     turned,
   )
     where
