@@ -1,5 +1,5 @@
 -- A line that its machine runs on one thread, and what the machine promises.
-use Rattle.std.specs.Prelude.{Bool, IsFalse, IsTrue, List, None, Option, Some, [], false, length, max, nat_le, true, ℕ, ◌&&◌, ◌++◌, ◌≡◌, ◌≤◌}
+use Rattle.std.specs.Prelude.{Bool, IsTrue, List, None, Option, Some, [], false, length, nat_le, true, ℕ, ◌&&◌, ◌++◌, ◌≡◌, ◌≤◌}
 use Rattle.std.specs.List.{fold, list_all}
 use Rattle.aft_model.proofs.Histories.{In}
 use Rattle.aft_model.specs.declared.caller.By.{By}
@@ -9,7 +9,6 @@ use Rattle.aft_model.specs.declared.node.NodeAct.{NodeAct}
 use Rattle.aft_model.specs.declared.script.Command.{Command}
 use Rattle.aft_model.specs.declared.script.Command.TheVariants as commands
 use Rattle.aft_model.specs.declared.script.Line.{Line}
-use Rattle.aft_model.specs.LegalNode.{LegalNode}
 use Rattle.aft_ledger.specs.View.{NodeView}
 use Rattle.aft_lines.specs.Asked.{Asked, Ran}
 use Rattle.aft_lines.specs.FinishedText.{line_of}
