@@ -189,7 +189,7 @@ module _ (asked : Asked) (ran : Ran) (stand : Line → Stand) (line : Line) (hol
     and_from _ _ (le-leb entry.front (length door) (let e = front_is in omega arith))
         (subst (λ (h : List NodeEntry). IsTrue (has_seen node.number (take entry.front door) entry.by h entry.act entry.answer)) is_node.history
         (subst (λ (seen : List DoorEntry). IsTrue (has_seen node.number seen entry.by node.history entry.act entry.answer)) (sym (ap (λ n. take n door) front_is ∙ take_all door))
-        (sym (sees_last trail.turns node.number node.history entry door) ∙ promises.sees door (sees_node (line_of line) trail.turns node.number node.history entry door driven.sees)))),
+        (sym (sees_last trail.turns node.number node.history entry door) ∙ promises.sees door driven.looked.0 (sees_node (line_of line) trail.turns node.number node.history entry door driven.sees) driven.looked.1))),
     last_reads,
     (let low = end_within (length door) (turns opening ran.trace) (turns_within opening asked.settings.cache ran.trace driven.account.nodes driven.account.office) in let e = front_is in omega arith),
   )

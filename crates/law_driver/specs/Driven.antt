@@ -46,7 +46,7 @@ reads_clock clock turn = true
 pub record Promises (by : By) (command : Command) (hold : Hold) (capacity : ℕ) (clock : Option ℕ) (done : Bool) (trail : Trail) : Type 0 where
   pub goes : (view : LineView) → RanSo command hold capacity trail view → (IsTrue done → HasLooked trail view) → GoesRightly view
   pub ends : (view : LineView) → RanSo command hold capacity trail view → view.clock ≡ clock → IsTrue done → HasLooked trail view → EndsRightly view
-  pub sees : (seen : List DoorEntry) → SeesOwn by trail.turns seen → IsTrue (last_sees seen trail.turns)
+  pub sees : (seen rest : List DoorEntry) → SeesOwn by trail.turns seen → seen ≡ trail.look ++ rest → IsTrue (last_sees seen trail.turns)
   pub reads : IsTrue (list_all (reads_clock clock) trail.turns)
 
 -- ---- a line that it runs
