@@ -1,11 +1,10 @@
 -- A node that has served an incarnation never boots it again.
-use Rattle.std.proofs.Common.{◌≡◌, ◌≤◌, ℕ, suc, Bool, ◌&&◌, not, List, [], ◌∷◌, ◌++◌, refl, sym, subst, eqb, arith}
+use Rattle.std.proofs.Common.{◌≡◌, ◌≤◌, ℕ, suc, not, List, [], ◌∷◌, ◌++◌, refl, sym, subst, eqb, arith}
 use Rattle.std.specs.Prelude.{IsFalse, IsTrue}
 use Rattle.std.proofs.lemmas.Bool.{and_parts, eqb-true, false_from_ne_true, false≢true}
 use Rattle.aft_model.specs.declared.node.NodeAct.{NodeAct}
 use Rattle.aft_model.specs.declared.node.NodeAct.TheVariants.{Booting}
 use Rattle.aft_model.specs.declared.node.NodeEntry.{NodeEntry}
-use Rattle.aft_model.specs.History.{each_after}
 use Rattle.aft_model.specs.LegalNode.{LegalNode, may_follow_at}
 use Rattle.aft_model.specs.NodeRules.{may_begin_boot}
 use Rattle.aft_model.specs.NodeState.{IsBooting, IsDown, IsServing, NodeState, boots, newest, newest_after, node_state, serves}

@@ -28,7 +28,6 @@ use Rattle.aft_read.specs.declared.stage.Stage.{Stage}
 use Rattle.aft_read.specs.declared.stage.Stage.TheVariants.{Begins, Comes, Ended, Fetches}
 use Rattle.aft_node.specs.declared.goes.Got.{Got}
 use Rattle.aft_turns.specs.Trail.{Trail}
-use Rattle.aft_turns.specs.declared.turn.Where.{Where}
 use Rattle.aft_turns.specs.declared.turn.Where.TheVariants as places
 use Rattle.law_steps.specs.Histories.{history_in}
 use Rattle.law_held.specs.Standing.{fetch_in, is_get}

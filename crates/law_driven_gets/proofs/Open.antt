@@ -17,7 +17,7 @@ use Rattle.aft_model.proofs.Services.{serving}
 use Rattle.aft_ledger.specs.Turns.{is_fetching}
 use Rattle.aft_lines.specs.Asked.{Asked, Ran}
 use Rattle.aft_lines.specs.FinishedText.{line_of}
-use Rattle.aft_lines.specs.Holding.{has_it_open, picks_fetch}
+use Rattle.aft_lines.specs.Holding.{picks_fetch}
 use Rattle.aft_lines.specs.LineView.{has_left}
 use Rattle.aft_lines.specs.Lines.{lines}
 use Rattle.aft_lines.specs.Progress.{Progress}
@@ -30,7 +30,7 @@ use Rattle.law_runs.proofs.LegalRuns.{so_far_goes}
 use Rattle.law_runs.proofs.Nodes.{nodes_rules}
 use Rattle.law_runs.proofs.Retires.{split_at}
 use Rattle.law_steps.specs.Histories.{history_in}
-use Rattle.law_held.specs.Fetching.{Fetch, KeepsFetches, fetch_at, fetch_of, fetching}
+use Rattle.law_held.specs.Fetching.{Fetch, KeepsFetches, fetch_of, fetching}
 use Rattle.law_held.specs.Standing.{fetch_in}
 use Rattle.law_held.proofs.Fetches.{open_now}
 use Rattle.law_held.proofs.OpenFetches.{fetches_behind}
@@ -71,15 +71,28 @@ module _ (asked : Asked) (ran : Ran) (stand : Line → Stand) (account : Account
   keeps : KeepsFetches at_end (fetch_of (asking_of asked ran) (run_steps ran))
   keeps = fetches_behind asked ran goes (run_steps ran) [] (sym (append-nil (run_steps ran)))
 
+  abbrev Legal : List NodeEntry → Type 0
+  Legal h = LegalNode f.attempt.node asked.settings.cache h
+
+  legal : Legal history
+  legal = (nodes_rules f.attempt.node 1 asked.settings.cache ran.trace.door ran.trace.nodes account.nodes).0
+
+  abbrev its_pick : NodeEntry → Bool
+  its_pick entry = picks_fetch f.attempt f.key f.id entry.act
+
   module _ (is : fetch_of (asking_of asked ran) (run_steps ran) (line_of line) ≡ Some f) where
+    -- it picked in a service of the incarnation, which the node doesn't boot again
+    picked_so : (before more : List NodeEntry) (entry : NodeEntry) → history ≡ before ++ entry ∷ more → IsTrue (its_pick entry) → IsFalse (boots f.attempt.inc (node_state history))
+    picked_so before more entry parts picks =
+        let first = (each_after_split (may_follow_at f.attempt.node asked.settings.cache) [] (before ++ entry ∷ []) more (subst Legal (parts ∙ sym (append_assoc before (entry ∷ []) more)) legal)).0 in
+        let own = acts_of_own f.attempt.node asked.settings.cache f.attempt before entry first (picks_acts f.attempt f.key f.id entry.act picks) in
+        subst (λ (h : List NodeEntry). IsFalse (boots f.attempt.inc (node_state h))) (sym parts) (boots_once f.attempt.node asked.settings.cache f.attempt.inc before (entry ∷ more) (subst Legal parts legal) own.1)
+
     not_booting : IsFalse (boots f.attempt.inc (node_state history))
     not_booting =
-        let found = any_found (λ (e : NodeEntry). picks_fetch f.attempt f.key f.id e.act) history (subst (λ (h : List NodeEntry). IsTrue (list_any (λ (e : NodeEntry). picks_fetch f.attempt f.key f.id e.act) h)) same (keeps.picked (line_of line) f is)) in
+        let found = any_found its_pick history (subst (λ (h : List NodeEntry). IsTrue (list_any its_pick h)) same (keeps.picked (line_of line) f is)) in
         let cut = split_at found.0 history found.1 in
-        let legal : LegalNode f.attempt.node asked.settings.cache (cut.0 ++ found.0 ∷ cut.1) = subst (LegalNode f.attempt.node asked.settings.cache) cut.2 (nodes_rules f.attempt.node 1 asked.settings.cache ran.trace.door ran.trace.nodes account.nodes).0 in
-        let first = (each_after_split (may_follow_at f.attempt.node asked.settings.cache) [] (cut.0 ++ found.0 ∷ []) cut.1 (subst (LegalNode f.attempt.node asked.settings.cache) (sym (append_assoc cut.0 (found.0 ∷ []) cut.1)) legal)).0 in
-        let own = acts_of_own f.attempt.node asked.settings.cache f.attempt cut.0 found.0 first (picks_acts f.attempt f.key f.id found.0.act found.2) in
-        subst (λ (h : List NodeEntry). IsFalse (boots f.attempt.inc (node_state h))) (sym cut.2) (boots_once f.attempt.node asked.settings.cache f.attempt.inc cut.0 (found.0 ∷ cut.1) legal own.1)
+        picked_so cut.0 cut.1 found.0 cut.2 found.2
 
     is_open : IsTrue (serves f.attempt.inc (node_state history)) → IsTrue (is_fetching f.attempt history)
     is_open serve =

@@ -1,6 +1,6 @@
 -- A get that has picked a version to fetch is at that fetch, and did that last at its node.
 use Rattle.std.proofs.Common.{◌≡◌, ℕ, ◌&&◌, List, [], ◌∷◌, refl, ap, ◌∙◌, ◌⊎◌, inl, inr}
-use Rattle.std.specs.Prelude.{IsTrue, None, Option, Some}
+use Rattle.std.specs.Prelude.{IsTrue, None, Some}
 use Rattle.std.specs.Str.{bytes_eq}
 use Rattle.std.proofs.lemmas.Bool.{and_from}
 use Rattle.aft_id.specs.declared.txn_id.TxnId.{TxnId}
