@@ -220,7 +220,7 @@ module _ (Fixed : Attempt → Commit → Type 0) where
     step = advance (command_of aborts) nodes ends
 
     later_last : (finishes : Bool) (position : Progress) (last : Option NodeAct) (turn : Turn) → LastAt last position → LastIf (act_behind last turn) (advance (command_of finishes) nodes ends position turn)
-    later_last finishes NotBegun last turn so = absurd so
+    later_last finishes NotBegun last _ so = absurd so
     later_last true position last (AtDoor place act) so = door_last ends place last position act so
     later_last false position last (AtDoor place act) so = door_last ends place last position act so
     later_last true position last (AtNode at before entry) so = node_last ends at before entry position last so
