@@ -1,0 +1,3 @@
+pub mod Crashing
+pub mod CrashStands
+pub mod Looked

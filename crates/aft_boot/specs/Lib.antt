@@ -1,0 +1,2 @@
+pub mod CrashView
+pub mod Crashed
