@@ -1,7 +1,7 @@
 -- The causes of what a start answers.
-use Rattle.std.proofs.Common.{◌≡◌, ◌+◌, ◌≤◌, ◌<◌, ℕ, Bool, true, false, ◌&&◌, ◌||◌, not, List, [], ◌∷◌, ◌++◌, eqb, length, length-append, max, refl, sym, ap, subst, ◌∙◌, inl, inr, append-nil, append_assoc, arith}
-use Rattle.std.specs.Prelude.{IsFalse, IsTrue, None, Option, Some, map, nat_lt, take}
-use Rattle.std.specs.List.{flat_map, list_all, list_any}
+use Rattle.std.proofs.Common.{◌≡◌, ◌+◌, ◌≤◌, ◌<◌, ℕ, Bool, true, false, ◌||◌, not, List, [], ◌∷◌, ◌++◌, eqb, length, length-append, max, refl, sym, ap, subst, ◌∙◌, append-nil, append_assoc, arith}
+use Rattle.std.specs.Prelude.{IsTrue, None, Option, Some, map, nat_lt, take}
+use Rattle.std.specs.List.{flat_map, list_any}
 use Rattle.std.specs.Str.{bytes_eq}
 use Rattle.std.proofs.lemmas.Bool.{and_from, eq-eqb, false≢true, le-ltb, lt-ltb, or_left, or_right}
 use Rattle.aft_keeper.specs.declared.keeper.KeeperAnswer.{KeeperAnswer}
@@ -10,7 +10,6 @@ use Rattle.aft_keeper.specs.declared.keeper.Pair.{Pair}
 use Rattle.aft_records.specs.declared.stored.Commit.{Commit}
 use Rattle.aft_model.specs.declared.caller.By.{By}
 use Rattle.aft_model.specs.declared.caller.Hold.{Hold}
-use Rattle.aft_model.specs.declared.door.DoorAct.{DoorAct}
 use Rattle.aft_model.specs.declared.door.DoorEntry.{DoorEntry}
 use Rattle.aft_model.specs.declared.node.NodeAct.{NodeAct}
 use Rattle.aft_model.specs.declared.node.NodeAct.TheVariants as acts
@@ -19,7 +18,7 @@ use Rattle.aft_model.specs.declared.reply.Reply.{Reply}
 use Rattle.aft_model.specs.declared.reply.Reply.TheVariants as replies
 use Rattle.aft_model.specs.declared.script.Command.TheVariants as commands
 use Rattle.aft_model.specs.History.{first_of}
-use Rattle.aft_model.specs.Membership.{Incarnation, incarnation}
+use Rattle.aft_model.specs.Membership.{incarnation}
 use Rattle.aft_model.specs.NodeSights.{is_fenced}
 use Rattle.aft_model.specs.NodeState.{boots, newest, node_state, serves}
 use Rattle.aft_model.specs.Opening.{is_failure}
@@ -31,7 +30,7 @@ use Rattle.aft_model.proofs.Sights.{bytes_eq-refl}
 use Rattle.aft_lines.specs.Causes.{Caused}
 use Rattle.aft_lines.specs.CausesNodes.{is_newest_at, is_unbooted}
 use Rattle.aft_lines.specs.CausesScans.{damage_in, is_too_many_records_caused, is_written_name, listed_in, written_name}
-use Rattle.aft_lines.specs.LineView.{LineView, NodeTurn, door_entries, door_entry_in, has_left, last_front, node_turn_in}
+use Rattle.aft_lines.specs.LineView.{LineView, NodeTurn, door_entries, door_entry_in, has_left, last_front}
 use Rattle.aft_lines.specs.Turns.{AtDoor, Turn}
 use Rattle.aft_turns.proofs.Views.{with_words}
 use Rattle.aft_boot.specs.Booted.{AreRead, PageAt, begun_turns, listed_on, page_act, page_turn, scan_page, up_turns}

@@ -1,8 +1,8 @@
 -- What a start has seen at the door when it serves.
 use Rattle.std.proofs.Common.{◌≡◌, ℕ, Bool, true, false, ◌&&◌, ◌||◌, List, [], ◌∷◌, ◌++◌, length, refl, sym, ap, subst, ◌∙◌, append-nil, inl, inr}
-use Rattle.std.specs.Prelude.{IsTrue, None, Option, Some, filter, if◌then◌else◌, map}
+use Rattle.std.specs.Prelude.{IsTrue, None, Option, Some, if◌then◌else◌, map}
 use Rattle.std.specs.Cmp.Lexicographic.{pointwise}
-use Rattle.std.specs.List.{flat_map, fold, list_all, list_any}
+use Rattle.std.specs.List.{flat_map, list_all, list_any}
 use Rattle.std.specs.Str.{bytes_eq}
 use Rattle.std.proofs.lemmas.Bool.{and_from, and_parts, false≢true, or_cases, or_left, or_right}
 use Rattle.std.proofs.lemmas.List.Elements.{filter-append}
@@ -115,9 +115,9 @@ module _ (by : By) (node inc : ℕ) (commits : List Commit) (pages : List PageAt
       by_line : (t : Bool) → (if t then entry ∷ own_entries by look else own_entries by look) ≡ [] → (IsTrue (list_any comes look) → own_entries by look ≡ [] → IsTrue (followed comes shows (look ++ rest))) → IsTrue (comes entry || list_any comes look) → IsTrue (comes entry && shows (look ++ rest) || followed comes shows (look ++ rest))
       by_line true nothing on came = absurd (never (own_entries by look) nothing)
       by_line false nothing on came = elim (or_cases (comes entry) (list_any comes look) came) [
-          | inl here ↦ or_left _ _ (and_from _ _ here (shows_so (look ++ rest) (own_both by look rest ∙ (ap (λ (es : List DoorEntry). es ++ own_entries by rest) nothing ∙ own))))
-          | inr later ↦ or_right _ _ (on later nothing)
-        ]
+        | inl here ↦ or_left _ _ (and_from _ _ here (shows_so (look ++ rest) (own_both by look rest ∙ (ap (λ (es : List DoorEntry). es ++ own_entries by rest) nothing ∙ own))))
+        | inr later ↦ or_right _ _ (on later nothing)
+      ]
 
   pub boot_shown : (up : Option ℕ) (look rest seen : List DoorEntry) → seen ≡ look ++ rest → HasComeUp by node inc up look → own_entries by seen ≡ up_entries by node inc up ++ (map (page_entry by node inc) pages ++ []) → IsTrue (is_boot_shown who by commits seen)
   boot_shown (Some place) look rest seen is come own = own_up seen own

@@ -1,12 +1,11 @@
 -- What stands of a start by the turns that it has made.
-use Rattle.std.proofs.Common.{◌≡◌, ◌≤◌, ℕ, Bool, true, false, ◌&&◌, ◌||◌, not, List, [], ◌∷◌, ◌++◌, eqb, length, max, refl, sym, ap, subst, ◌∙◌, ◌⊎◌, inl, inr, append-nil, append_assoc, arith}
+use Rattle.std.proofs.Common.{◌≡◌, ◌≤◌, ℕ, Bool, true, false, List, [], ◌∷◌, ◌++◌, eqb, length, max, refl, sym, ap, subst, ◌∙◌, ◌⊎◌, inl, inr, arith}
 use Rattle.std.specs.Prelude.{IsTrue, None, Option, Some, is_some, map, take}
-use Rattle.std.specs.List.{flat_map, fold, list_all}
-use Rattle.std.proofs.lemmas.Bool.{and_from, eq-eqb, false≢true, or_left, or_right}
+use Rattle.std.specs.List.{fold, list_all}
+use Rattle.std.proofs.lemmas.Bool.{and_from, eq-eqb, or_left}
 use Rattle.std.proofs.lemmas.List.Folds.{list_all-append}
 use Rattle.std.proofs.lemmas.List.Sums.{fold-append}
 use Rattle.aft_keeper.specs.declared.keeper.KeeperAnswer.{KeeperAnswer}
-use Rattle.aft_keeper.specs.declared.keeper.Pair.{Pair}
 use Rattle.aft_records.specs.declared.stored.Commit.{Commit}
 use Rattle.aft_model.specs.declared.caller.By.{By}
 use Rattle.aft_model.specs.declared.caller.Hold.{Hold}
@@ -22,11 +21,10 @@ use Rattle.aft_model.specs.NodeState.{IsBooting, IsDown, IsServing, NodeState, S
 use Rattle.aft_model.specs.Replies.{is_silent}
 use Rattle.aft_model.specs.ScanRun.{goes_on, is_scan_run}
 use Rattle.aft_ledger.specs.Turns.{boot_refusal}
-use Rattle.aft_lines.specs.Advance.{advance, advanced, is_led_to_end, leads_to}
+use Rattle.aft_lines.specs.Advance.{is_led_to_end}
 use Rattle.aft_lines.specs.Causes.{Caused}
 use Rattle.aft_lines.specs.CausesNodes.{is_boot_running}
 use Rattle.aft_lines.specs.CourseWords.{Ends, closes}
-use Rattle.aft_lines.specs.LineCourse.{answers_last}
 use Rattle.aft_lines.specs.LineView.{LineView, ends_of, has_left, last_front}
 use Rattle.aft_lines.specs.Lines.{node_numbers}
 use Rattle.aft_lines.specs.Makes.{makes, starts_at_node}
@@ -35,20 +33,19 @@ use Rattle.aft_lines.specs.RunsSoFar.{position_of}
 use Rattle.aft_lines.specs.Turns.{AtDoor, Turn, answer_in}
 use Rattle.aft_node.specs.declared.goes.BootEnd.{BootEnd}
 use Rattle.aft_node.specs.declared.goes.BootEnd.TheVariants.{Refused, Shown}
-use Rattle.aft_turns.specs.Stands.{EndsRightly, GoesRightly, HasLooked, IsUnanswered, RanSo, end_answer}
+use Rattle.aft_turns.specs.Stands.{EndsRightly, GoesRightly, HasLooked, IsUnanswered, RanSo}
 use Rattle.aft_turns.specs.Trail.{Trail}
 use Rattle.aft_turns.specs.declared.turn.Where.TheVariants as places
 use Rattle.aft_turns.proofs.Closed.{led_is_some}
 use Rattle.aft_turns.proofs.Views.{by_words, with_words}
-use Rattle.aft_boot.specs.Booted.{AreRead, BootsSo, Closes, EndedAtOnce, EndedLater, HasBegun, HasRead, HasStopped, IsShutOut, IsToEnd, PageAt, StopsAt, begun_turns, listed_on, made_at, page_act, page_turn, scan_page, up_turns}
+use Rattle.aft_boot.specs.Booted.{AreRead, Closes, EndedLater, HasRead, HasStopped, IsShutOut, IsToEnd, PageAt, StopsAt, begun_turns, listed_on, made_at, page_act, page_turn, scan_page, up_turns}
 use Rattle.aft_boot.specs.BootView.{left_at, next_at}
 use Rattle.aft_boot.specs.Crashed.{turn_at}
-use Rattle.aft_boot.specs.Pages.{StopsCall}
 use Rattle.aft_boot.specs.declared.stage.Stage.{Stage}
 use Rattle.aft_boot.specs.declared.stage.Stage.TheVariants.{Begins, ComesUp, Ended, Ends as ToEnd, Scans}
 use Rattle.aft_boot.proofs.BootCauses.{left, shut_out, started, stopped}
 use Rattle.aft_boot.proofs.Entries.{AreDoor, are_silent, both_door, ends_with, last_answers, pages_door, up_door}
-use Rattle.aft_boot.proofs.Led.{Closes as ClosesLine, InBoot, IsAt, any_call, at_in_boot, behind_pages, ends_any, ends_whole, goes_so, scan_at, step, through, whole_so}
+use Rattle.aft_boot.proofs.Led.{Closes as ClosesLine, InBoot, any_call, at_in_boot, behind_pages, ends_any, ends_whole, goes_so, step, through, whole_so}
 
 -- ---- lines of a start make its turns
 
@@ -168,13 +165,13 @@ module _ (by : By) (node : ℕ) (hold : Hold) (view : LineView) (inc : ℕ) (bef
     pub stopped_rightly : (look : List DoorEntry) (more : List Turn) (reply : Reply) → AreDoor more → IsTrue (list_all (makes (commands.Start node)) more) → ((turns : List Turn) → Boots turns more)
         → ((rest : List DoorEntry) → take (last_front (ran (all_turns more (acts.BootStopped inc) reply))) view.seen ≡ look ++ rest → Caused (ran (all_turns more (acts.BootStopped inc) reply)) reply) → Rightly look (all_turns more (acts.BootStopped inc) reply)
     stopped_rightly look more reply door its boots caused = (
-        (record {
-          leads = led_is_some _ led;
-          makes = list_all-append (makes (commands.Start node)) (begun more) (last (acts.BootStopped inc) reply ∷ []) ∙ and_from _ _ (all_make by node inc before front up pages more its) refl;
-          speaks = refl;
-        }),
-        λ rest begins. (over more (acts.BootStopped inc) reply door its refl led (caused rest begins)).1,
-      )
+      (record {
+        leads = led_is_some _ led;
+        makes = list_all-append (makes (commands.Start node)) (begun more) (last (acts.BootStopped inc) reply ∷ []) ∙ and_from _ _ (all_make by node inc before front up pages more its) refl;
+        speaks = refl;
+      }),
+      λ rest begins. (over more (acts.BootStopped inc) reply door its refl led (caused rest begins)).1,
+    )
       where
         led : IsTrue (is_led_to_end (position_of (ran (all_turns more (acts.BootStopped inc) reply))))
         led = led_any more (acts.BootStopped inc) reply (boots (all_turns more (acts.BootStopped inc) reply)) (stops_line (all_turns more (acts.BootStopped inc) reply) reply)

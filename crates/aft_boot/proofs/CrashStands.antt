@@ -1,8 +1,8 @@
 -- What stands of a crash by the turns that it has made.
-use Rattle.std.proofs.Common.{◌≡◌, ◌≤◌, ℕ, zero, suc, Bool, true, false, ◌&&◌, ◌||◌, not, List, [], ◌∷◌, ◌++◌, drop, eqb, length, refl, sym, ap, subst, ◌∙◌, inl, inr, arith}
-use Rattle.std.specs.Prelude.{IsTrue, None, Option, Some, is_some, take, if◌then◌else◌}
+use Rattle.std.proofs.Common.{◌≡◌, ◌≤◌, ℕ, zero, suc, Bool, true, false, ◌&&◌, not, List, [], ◌∷◌, ◌++◌, eqb, length, refl, sym, ap, subst, ◌∙◌, inl, inr, arith}
+use Rattle.std.specs.Prelude.{IsTrue, None, Option, Some, take, if◌then◌else◌}
 use Rattle.std.specs.List.{flat_map, list_all, list_any}
-use Rattle.std.proofs.lemmas.Bool.{and_from, eq-eqb, false≢true, or_left, or_right, eqb-true, cases_Bool}
+use Rattle.std.proofs.lemmas.Bool.{and_from, eq-eqb, false≢true, or_left, or_right}
 use Rattle.aft_model.specs.declared.caller.By.{By}
 use Rattle.aft_model.specs.declared.caller.Hold.{Hold}
 use Rattle.aft_model.specs.declared.door.DoorAct.TheVariants.{Fence}
@@ -33,7 +33,7 @@ use Rattle.aft_turns.specs.declared.turn.Where.TheVariants as places
 use Rattle.aft_turns.proofs.Closed.{led_is_some}
 use Rattle.aft_turns.proofs.Views.{by_words, with_words}
 use Rattle.aft_boot.specs.CrashView.{left_at, next_at}
-use Rattle.aft_boot.specs.Crashed.{EndedSo, GoesDown, HasFenced, LooksLate, made_at, turn_at}
+use Rattle.aft_boot.specs.Crashed.{GoesDown, HasFenced, LooksLate, made_at, turn_at}
 use Rattle.aft_boot.specs.declared.fencing.Fencing.{Fencing}
 use Rattle.aft_boot.specs.declared.fencing.Fencing.TheVariants.{Begins, Ended, Tells}
 use Rattle.aft_boot.proofs.Looked.{looked_at}
@@ -183,10 +183,6 @@ module _ (by : By) (node : ℕ) (hold : Hold) (capacity : ℕ) where
   so : (P : LineView → Type 0) (trail : Trail) (view : LineView) (turns : List Turn) → RanSo (commands.Crash node) hold capacity trail view → trail.turns ≡ turns → P (ran by node hold view turns) → P view
   so P trail view turns is same holds = by_words P (commands.Crash node) hold capacity trail view turns is same holds
 
-  -- the turns of one that is over
-  ended_turns : (trail : Trail) (ended : EndedSo by node trail) (since : List Turn) → ended.since.turns ≡ since → trail.turns ≡ since ++ turn_at by node ended.before ended.front ended.act (Some ended.reply) ∷ []
-  ended_turns trail ended since is = ended.turns ∙ ap (λ (ts : List Turn). ts ++ turn_at by node ended.before ended.front ended.act (Some ended.reply) ∷ []) is
-
   pub goes_so : (stage : Fencing) (trail : Trail) (view : LineView) → made_at by node stage trail → RanSo (commands.Crash node) hold capacity trail view → GoesRightly view
   goes_so Begins trail view none is = so GoesRightly trail view [] is (ap (λ (t : Trail). t.turns) none) (nothing_yet by node hold view)
   goes_so (Tells (Some inc)) trail view (place, turns) is = so GoesRightly trail view _ is turns (has_fenced by node hold view inc place)
@@ -200,7 +196,7 @@ module _ (by : By) (node : ℕ) (hold : Hold) (capacity : ℕ) where
       by_fence None act reply (begun, none) (is_nothing, told) turns =
           so GoesRightly trail view _ is
           (turns ∙ ap (λ (ts : List Turn). ts ++ turn_at by node ended.before ended.front act (Some reply) ∷ []) begun ∙ ap (λ (r : Reply). turn_at by node ended.before ended.front act (Some r) ∷ []) told
-              ∙ ap (λ (x : NodeAct). turn_at by node ended.before ended.front x (Some (replies.NotUp node)) ∷ []) is_nothing)
+          ∙ ap (λ (x : NodeAct). turn_at by node ended.before ended.front x (Some (replies.NotUp node)) ∷ []) is_nothing)
           (not_up_goes by node hold view ended.before ended.front)
 
   pub unanswered_so : (stage : Fencing) (trail : Trail) (view : LineView) → made_at by node stage trail → RanSo (commands.Crash node) hold capacity trail view → 1 ≤ left_at stage → IsUnanswered view
@@ -225,7 +221,7 @@ module _ (by : By) (node : ℕ) (hold : Hold) (capacity : ℕ) where
       by_fence None act reply (begun, none) (is_nothing, told) turns =
           so (EndsBy trail) trail view _ is
           (turns ∙ ap (λ (ts : List Turn). ts ++ turn_at by node ended.before ended.front act (Some reply) ∷ []) begun ∙ ap (λ (r : Reply). turn_at by node ended.before ended.front act (Some r) ∷ []) told
-              ∙ ap (λ (x : NodeAct). turn_at by node ended.before ended.front x (Some (replies.NotUp node)) ∷ []) is_nothing)
+          ∙ ap (λ (x : NodeAct). turn_at by node ended.before ended.front x (Some (replies.NotUp node)) ∷ []) is_nothing)
           (λ rest begins late. not_up_ends by node hold view ended.before ended.front trail.look rest (subst (λ (look : List DoorEntry). up_now node look ≡ None) (sym ended.look) none) begins (late refl))
 
 pub sees_so : (by : By) (node : ℕ) (stage : Fencing) (trail : Trail) (seen : List DoorEntry) → made_at by node stage trail → SeesOwn by trail.turns seen → IsTrue (last_sees seen trail.turns)

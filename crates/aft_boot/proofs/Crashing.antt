@@ -1,6 +1,6 @@
 -- The turns of a crash, by what the door and the node do.
-use Rattle.std.proofs.Common.{◌≡◌, ℕ, Bool, true, false, ◌||◌, not, List, [], ◌∷◌, ◌++◌, length, max, refl, sym, ap, subst, inl, inr}
-use Rattle.std.specs.Prelude.{IfNone, IfSome, IsTrue, None, Option, Some, if◌then◌else◌}
+use Rattle.std.proofs.Common.{◌≡◌, ℕ, Bool, true, false, ◌||◌, not, [], ◌∷◌, ◌++◌, length, max, refl, sym, ap, inl, inr}
+use Rattle.std.specs.Prelude.{IfNone, IfSome, None, Option, Some, if◌then◌else◌}
 use Rattle.aft_model.specs.declared.caller.By.{By}
 use Rattle.aft_model.specs.declared.door.DoorAct.TheVariants.{Fence}
 use Rattle.aft_model.specs.declared.node.NodeAct.{NodeAct}
@@ -12,14 +12,14 @@ use Rattle.aft_model.specs.NodeState.{boots, node_state, serves}
 use Rattle.aft_door.specs.Calls.{DoorView, with_entry}
 use Rattle.aft_door.specs.Entries.{was_fenced}
 use Rattle.aft_ledger.specs.View.{NodeView, after_entry, answered}
-use Rattle.aft_lines.specs.Turns.{AtDoor, AtNode, Turn}
+use Rattle.aft_lines.specs.Turns.{AtDoor, Turn}
 use Rattle.aft_node.specs.Booting.{down_done}
-use Rattle.aft_boot.specs.CrashView.{CrashView, next_at, next_of}
-use Rattle.aft_boot.specs.Crashed.{GoesDown, Made, made_at, turn_at}
+use Rattle.aft_boot.specs.CrashView.{next_at}
+use Rattle.aft_boot.specs.Crashed.{GoesDown, made_at}
 use Rattle.aft_boot.specs.declared.fencing.Fencing.{Fencing}
 use Rattle.aft_boot.specs.declared.fencing.Fencing.TheVariants.{Begins, Ended, Tells}
-use Rattle.aft_turns.specs.Steps.{SameStore, StepsAtDoor, StepsAtNode, entry_of}
-use Rattle.aft_turns.specs.Trail.{Trail, behind}
+use Rattle.aft_turns.specs.Steps.{StepsAtDoor, StepsAtNode}
+use Rattle.aft_turns.specs.Trail.{Trail}
 use Rattle.aft_turns.specs.declared.turn.Where.TheVariants as places
 
 -- ---- at the door
@@ -36,34 +36,28 @@ module _ (by : By) (node : ℕ) (old new : DoorView) where
       turn = AtDoor (length old.history) (Fence node inc)
   fences None is some none = inr (ap (λ (d : DoorView). d.history) none, λ trail made. (ap (λ (t : Trail). t.turns) made, sym is))
 
-  pub same_store : (fenced : Option ℕ) → IfSome fenced (λ inc. new ≡ with_entry old (was_fenced by node inc)) → IfNone fenced (new ≡ old) → SameStore old new
-  same_store (Some inc) some none = record { contents = ap (λ (d : DoorView). d.first_contents) some; log = ap (λ (d : DoorView). d.first_log) some }
-  same_store None some none = record { contents = ap (λ (d : DoorView). d.first_contents) none; log = ap (λ (d : DoorView). d.first_log) none }
-
-  pub same_faults : (fenced : Option ℕ) → IfSome fenced (λ inc. new ≡ with_entry old (was_fenced by node inc)) → IfNone fenced (new ≡ old) → new.faults ≡ old.faults
-  same_faults (Some inc) some none = ap (λ (d : DoorView). d.faults) some
-  same_faults None some none = ap (λ (d : DoorView). d.faults) none
-
 -- ---- at the node
 
 module _ (by : By) (handed : ℕ) (old new : NodeView) where
   over : (fenced : Option ℕ) (act : NodeAct) (reply : Reply) → GoesDown old.number fenced old.history act reply → new ≡ after_entry handed by act (Some reply) old
       → StepsAtNode by handed (made_at by old.number (Tells fenced)) (made_at by old.number Ended) old new
   over fenced act reply down is = (
-      act, Some reply, is,
-      λ trail made. record {
-        incarnation = fenced;
-        since = trail;
-        before = old.history;
-        front = max old.front handed;
-        act = act;
-        reply = reply;
-        fenced = made;
-        turns = refl;
-        look = refl;
-        down = down;
-      }
-    )
+    act,
+    Some reply,
+    is,
+    λ trail made. record {
+      incarnation = fenced;
+      since = trail;
+      before = old.history;
+      front = max old.front handed;
+      act = act;
+      reply = reply;
+      fenced = made;
+      turns = refl;
+      look = refl;
+      down = down;
+    },
+  )
 
   pub goes_down : (fenced : Option ℕ) → new ≡ down_done handed by fenced old → StepsAtNode by handed (made_at by old.number (Tells fenced)) (made_at by old.number Ended) old new
   goes_down None is = over None acts.Nothing (replies.NotUp old.number) (refl, refl) is
@@ -74,23 +68,6 @@ module _ (by : By) (handed : ℕ) (old new : NodeView) where
           → StepsAtNode by handed (made_at by old.number (Tells (Some inc))) (made_at by old.number Ended) old new
       by_state true here is = over (Some inc) (acts.Down inc) (replies.Crashed old.number inc) (inl refl, refl) is
       by_state false here is = over (Some inc) acts.Nothing (replies.Crashed old.number inc) (inr (refl, ap not here), refl) is
-
--- ---- put to the crash that makes it
-
-pub one_node : (n m : ℕ) → places.Node n ≡ places.Node m → n ≡ m
-one_node n m e = cc
-
-node_not : (n : ℕ) → places.Door ≡ places.Node n → ⊥
-node_not n e = cc
-
--- whose next turn is at a node is at its own
-pub own_node : (n m : ℕ) (stage : Fencing) → next_at n stage ≡ places.Node m → n ≡ m
-own_node n m Begins next = absurd (node_not m next)
-own_node n m (Tells fenced) next = one_node n m next
-own_node n m Ended next = absurd (done_not next)
-  where
-    done_not : places.Done ≡ places.Node m → ⊥
-    done_not e = cc
 
 -- whose next turn is at the door has done nothing
 pub door_begins : (n : ℕ) (stage : Fencing) → next_at n stage ≡ places.Door → stage ≡ Begins

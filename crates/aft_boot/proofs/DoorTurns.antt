@@ -1,7 +1,7 @@
 -- The turns of a start at the door, by what the door tells.
-use Rattle.std.proofs.Common.{◌≡◌, ◌≢◌, ◌≤◌, ◌+◌, ℕ, Bool, true, false, ◌&&◌, ◌||◌, not, List, [], ◌∷◌, ◌++◌, eqb, length, refl, sym, ap, subst, ◌∙◌, inl, inr, append-nil, arith, ◌⊎◌}
-use Rattle.std.specs.Prelude.{Err, IfSome, IsFalse, IsTrue, None, Ok, OnErr, OnOk, Option, Result, Some, if◌then◌else◌}
-use Rattle.std.specs.List.{flat_map, list_all}
+use Rattle.std.proofs.Common.{◌≡◌, ◌≢◌, ◌+◌, ℕ, Bool, true, false, not, List, [], ◌∷◌, ◌++◌, eqb, length, refl, sym, ap, subst, ◌∙◌, inl, inr, append-nil, arith}
+use Rattle.std.specs.Prelude.{Err, IfSome, IsTrue, None, Ok, OnErr, OnOk, Option, Result, Some, if◌then◌else◌}
+use Rattle.std.specs.List.{flat_map}
 use Rattle.std.proofs.lemmas.Bool.{and_parts, false≢true, not-true, or_cases, true≢false, eq-eqb}
 use Rattle.aft_keeper.specs.declared.keeper.KeeperAnswer.{KeeperAnswer}
 use Rattle.aft_keeper.specs.declared.keeper.KeeperAnswer.TheVariants as answers
@@ -12,14 +12,12 @@ use Rattle.aft_model.specs.declared.caller.By.{By}
 use Rattle.aft_model.specs.declared.caller.Caller.{Caller}
 use Rattle.aft_model.specs.declared.door.DoorAct.TheVariants.{Up}
 use Rattle.aft_model.specs.declared.door.DoorEntry.{DoorEntry}
-use Rattle.aft_model.specs.declared.node.NodeAct.TheVariants as acts
 use Rattle.aft_model.specs.declared.reply.Reply.{Reply}
 use Rattle.aft_model.specs.declared.reply.Reply.TheVariants as replies
-use Rattle.aft_model.specs.Membership.{incarnation, is_up, same_incarnation, up_now, ups}
-use Rattle.aft_model.specs.NodeSights.{is_fenced, own_entries}
-use Rattle.aft_model.specs.ScanRun.{next_after}
+use Rattle.aft_model.specs.Membership.{incarnation, is_up, up_now}
+use Rattle.aft_model.specs.NodeSights.{is_fenced}
 use Rattle.aft_model.specs.Sound.{records_prefix}
-use Rattle.aft_door.specs.Calls.{Asks, DoorView, Shows, told_page, with_entry}
+use Rattle.aft_door.specs.Calls.{DoorView, Shows, told_page, with_entry}
 use Rattle.aft_door.specs.Entries.{called, came_up}
 use Rattle.aft_door.specs.Refusals.{RefusedBy, RefusedOrFailed, if_fenced, if_past, is_past}
 use Rattle.aft_door.specs.declared.fault.DoorFault.{DoorFault}
@@ -27,15 +25,13 @@ use Rattle.aft_door.specs.declared.fault.DoorFault.TheVariants as faults
 use Rattle.aft_lines.specs.LineView.{door_entry_in}
 use Rattle.aft_lines.specs.Turns.{AtDoor, Turn}
 use Rattle.aft_node.specs.declared.goes.BootEnd.TheVariants.{Refused, Shown}
-use Rattle.aft_boot.specs.Booted.{HasBegun, HasComeUp, HasStopped, IsScanning, IsShutOut, IsToEnd, PageAt, StopsAt, begun_turns, made_at, may_call_at, page_act, stood_at}
+use Rattle.aft_boot.specs.Booted.{HasBegun, IsShutOut, PageAt, begun_turns, made_at, may_call_at, page_act, stood_at}
 use Rattle.aft_boot.specs.BootView.{is_other, refusal_of, up_stage}
-use Rattle.aft_boot.specs.Crashed.{turn_at}
-use Rattle.aft_boot.specs.Pages.{LeadsTo, Reads, ReadsTo, StopsCall, StopsPage}
+use Rattle.aft_boot.specs.Pages.{LeadsTo, ReadsTo, StopsCall}
 use Rattle.aft_boot.specs.declared.stage.Stage.{Stage}
 use Rattle.aft_boot.specs.declared.stage.Stage.TheVariants.{Begins, ComesUp, Ended, Ends, Scans}
 use Rattle.aft_boot.proofs.PageRuns.{count_more, goes_behind, read_more, shown_more, turns_more, whole_behind}
 use Rattle.aft_boot.proofs.Ups.{has_come_up, no_other_up}
-use Rattle.aft_turns.specs.Stands.{SeesOwn}
 use Rattle.aft_turns.specs.Steps.{SameStore, StepsAtDoor}
 use Rattle.aft_turns.specs.Trail.{Trail}
 
@@ -76,50 +72,50 @@ module _ (by : By) (node inc : ℕ) (old : List DoorEntry) where
       by_now : (now : Option ℕ) → up_now node old ≡ now → is_other inc now ≡ true → IsShutOut node inc old (replies.NodeDown node inc)
       by_now None is other = absurd (false≢true other)
       by_now (Some o) is other = elim (or_cases (is_fenced (incarnation node inc) old) _ may) [
-          | inl fenced ↦ inl (refl, fenced)
-          | inr alone ↦ absurd (true≢false (sym (eq-eqb o inc (sym (no_other_up node inc o old is (and_parts (not (is_past node inc old)) _ alone).1))) ∙ not-true (eqb o inc) other))
-        ]
+        | inl fenced ↦ inl (refl, fenced)
+        | inr alone ↦ absurd (true≢false (sym (eq-eqb o inc (sym (no_other_up node inc o old is (and_parts (not (is_past node inc old)) _ alone).1))) ∙ not-true (eqb o inc) other))
+      ]
 
   -- it was fenced, or a newer one was
   past : may_call_at node (ComesUp inc) old → is_past node inc old ≡ true → IsTrue (is_fenced (incarnation node inc) old)
   past may is = elim (or_cases (is_fenced (incarnation node inc) old) _ may) [
-      | inl fenced ↦ fenced
-      | inr alone ↦ absurd (true≢false (sym is ∙ not-true (is_past node inc old) (and_parts (not (is_past node inc old)) _ alone).0))
-    ]
+    | inl fenced ↦ fenced
+    | inr alone ↦ absurd (true≢false (sym is ∙ not-true (is_past node inc old) (and_parts (not (is_past node inc old)) _ alone).0))
+  ]
 
   module _ (not_office : node ≢ 0) (before after : DoorView) (here : before.history ≡ old) (may : may_call_at node (ComesUp inc) old) where
     -- it had come up before
     was_up : up_now node old ≡ Some inc → after ≡ before → StepsAtDoor by stood (made_at by node (Scans inc [] 0 [])) old after.history
     was_up is same = inr (
-        ap (λ (d : DoorView). d.history) same ∙ here,
-        λ trail its. record {
-          up = None;
-          pages = [];
-          begun = record { before = its.0.before; front = its.0.front; newest = its.0.newest; turns = its.0.turns };
-          come = (has_come_up node inc old not_office is, its.1.own ∙ ap (λ (ts : List Turn). flat_map (door_entry_in by) ts) its.0.turns);
-          read = record { few = omega arith; readable = refl };
-          goes = refl;
-          count = refl;
-          shown = refl;
-        }
-      )
+      ap (λ (d : DoorView). d.history) same ∙ here,
+      λ trail its. record {
+        up = None;
+        pages = [];
+        begun = record { before = its.0.before; front = its.0.front; newest = its.0.newest; turns = its.0.turns };
+        come = (has_come_up node inc old not_office is, its.1.own ∙ ap (λ (ts : List Turn). flat_map (door_entry_in by) ts) its.0.turns);
+        read = record { few = omega arith; readable = refl };
+        goes = refl;
+        count = refl;
+        shown = refl;
+      },
+    )
 
     -- it comes up now
     comes_up_now : after ≡ with_entry before (came_up by node inc) → StepsAtDoor by stood (made_at by node (Scans inc [] 0 [])) old after.history
     comes_up_now is = inl (
-        Up node inc,
-        ap (λ (d : DoorView). d.history) is ∙ ap (λ (h : List DoorEntry). h ++ came_up by node inc ∷ []) here,
-        λ trail its. record {
-          up = Some (length old);
-          pages = [];
-          begun = record { before = its.0.before; front = its.0.front; newest = its.0.newest; turns = ap (λ (ts : List Turn). ts ++ AtDoor (length old) (Up node inc) ∷ []) its.0.turns };
-          come = tt;
-          read = record { few = omega arith; readable = refl };
-          goes = refl;
-          count = refl;
-          shown = refl;
-        }
-      )
+      Up node inc,
+      ap (λ (d : DoorView). d.history) is ∙ ap (λ (h : List DoorEntry). h ++ came_up by node inc ∷ []) here,
+      λ trail its. record {
+        up = Some (length old);
+        pages = [];
+        begun = record { before = its.0.before; front = its.0.front; newest = its.0.newest; turns = ap (λ (ts : List Turn). ts ++ AtDoor (length old) (Up node inc) ∷ []) its.0.turns };
+        come = tt;
+        read = record { few = omega arith; readable = refl };
+        goes = refl;
+        count = refl;
+        shown = refl;
+      },
+    )
 
     refused : (fault : DoorFault) → RefusedBy {T = Unit {0}} (if_past node inc old) (Err fault) → after ≡ before → StepsAtDoor by stood (made_at by node (stopped node inc fault)) old after.history
     refused fault why same = by_past (is_past node inc old) refl fault why
@@ -167,40 +163,40 @@ module _ (by : By) (node inc : ℕ) (after : List ℕ) (listed : ℕ) (commits :
   module _ (answer : KeeperAnswer) (grown : new.history ≡ old.history ++ called who (Scan records_prefix after 64) answer ∷ []) where
     stops_behind : (reply : Reply) → StopsCall answer listed reply → StepsAtDoor by scans (made_at by node (Ends inc (Refused reply))) old.history new.history
     stops_behind reply stops = inl (
-        page_act node inc after answer,
-        grown,
-        λ trail its. record {
-          up = its.0.up;
-          pages = its.0.pages;
-          more = AtDoor (length old.history) (page_act node inc after answer) ∷ [];
-          after = after;
-          begun = record {
-            before = its.0.begun.before;
-            front = its.0.begun.front;
-            newest = its.0.begun.newest;
-            turns = ap (λ (ts : List Turn). ts ++ AtDoor (length old.history) (page_act node inc after answer) ∷ []) (its.0.begun.turns ∙ append-nil (begun_turns by node inc its.0.begun.before its.0.begun.front its.0.up its.0.pages));
-          };
-          read = its.0.read;
-          goes = its.0.goes;
-          stops = inr (length old.history, answer, refl, subst (λ (n : ℕ). StopsCall answer n reply) its.0.count stops);
-        }
-      )
+      page_act node inc after answer,
+      grown,
+      λ trail its. record {
+        up = its.0.up;
+        pages = its.0.pages;
+        more = AtDoor (length old.history) (page_act node inc after answer) ∷ [];
+        after = after;
+        begun = record {
+          before = its.0.begun.before;
+          front = its.0.begun.front;
+          newest = its.0.begun.newest;
+          turns = ap (λ (ts : List Turn). ts ++ AtDoor (length old.history) (page_act node inc after answer) ∷ []) (its.0.begun.turns ∙ append-nil (begun_turns by node inc its.0.begun.before its.0.begun.front its.0.up its.0.pages));
+        };
+        read = its.0.read;
+        goes = its.0.goes;
+        stops = inr (length old.history, answer, refl, subst (λ (n : ℕ). StopsCall answer n reply) its.0.count stops);
+      },
+    )
 
   -- it wasn't asked
   stops_here : (reply : Reply) → new.history ≡ old.history → IsShutOut node inc old.history reply → StepsAtDoor by scans (made_at by node (Ends inc (Refused reply))) old.history new.history
   stops_here reply same shut = inr (
-      same,
-      λ trail its. record {
-        up = its.0.up;
-        pages = its.0.pages;
-        more = [];
-        after = after;
-        begun = record { before = its.0.begun.before; front = its.0.begun.front; newest = its.0.begun.newest; turns = its.0.begun.turns };
-        read = its.0.read;
-        goes = its.0.goes;
-        stops = inl (refl, shut);
-      }
-    )
+    same,
+    λ trail its. record {
+      up = its.0.up;
+      pages = its.0.pages;
+      more = [];
+      after = after;
+      begun = record { before = its.0.begun.before; front = its.0.begun.front; newest = its.0.begun.newest; turns = its.0.begun.turns };
+      read = its.0.read;
+      goes = its.0.goes;
+      stops = inl (refl, shut);
+    },
+  )
 
   module _ (page : List Pair) (grown : new.history ≡ old.history ++ called who (Scan records_prefix after 64) (answers.Page page) ∷ []) where
     abbrev it : PageAt
@@ -212,9 +208,9 @@ module _ (by : By) (node inc : ℕ) (after : List ℕ) (listed : ℕ) (commits :
       front = its.0.begun.front;
       newest = its.0.begun.newest;
       turns =
-        ap (λ (ts : List Turn). ts ++ AtDoor (length old.history) (page_act node inc after (answers.Page page)) ∷ []) (its.0.begun.turns ∙ append-nil (begun_turns by node inc its.0.begun.before its.0.begun.front its.0.up its.0.pages))
-        ∙ sym (turns_more its.0.pages it by node inc its.0.begun.before its.0.begun.front its.0.up)
-        ∙ sym (append-nil (begun_turns by node inc its.0.begun.before its.0.begun.front its.0.up (its.0.pages ++ it ∷ [])));
+          ap (λ (ts : List Turn). ts ++ AtDoor (length old.history) (page_act node inc after (answers.Page page)) ∷ []) (its.0.begun.turns ∙ append-nil (begun_turns by node inc its.0.begun.before its.0.begun.front its.0.up its.0.pages))
+          ∙ sym (turns_more its.0.pages it by node inc its.0.begun.before its.0.begun.front its.0.up)
+          ∙ sym (append-nil (begun_turns by node inc its.0.begun.before its.0.begun.front its.0.up (its.0.pages ++ it ∷ [])));
     }
 
     page_leads : (stage : Stage) → ReadsTo page inc listed commits stage → StepsAtDoor by scans (made_at by node stage) old.history new.history
@@ -231,7 +227,7 @@ module _ (by : By) (node inc : ℕ) (after : List ℕ) (listed : ℕ) (commits :
             goes = goes_behind its.0.pages it its.0.goes ∙ goes after;
             count = counts ∙ ap (λ (n : ℕ). n + length page) its.0.count ∙ sym (count_more its.0.pages it);
             shown = shown_more its.0.pages it listed commits all its.0.shown reads;
-          }
+          },
         ))
     page_leads (Ends other (Shown all)) (same, reads, over) =
         subst (λ (i : ℕ). StepsAtDoor by scans (made_at by node (Ends i (Shown all))) old.history new.history) (sym same) (inl (
@@ -245,7 +241,7 @@ module _ (by : By) (node inc : ℕ) (after : List ℕ) (listed : ℕ) (commits :
             read = read_more its.0.pages it listed commits all its.0.count its.0.read reads;
             whole = whole_behind its.0.pages it its.0.goes (over after);
             shown = shown_more its.0.pages it listed commits all its.0.shown reads;
-          }
+          },
         ))
     page_leads (Ends other (Refused reply)) (same, stops) =
         subst (λ (i : ℕ). StepsAtDoor by scans (made_at by node (Ends i (Refused reply))) old.history new.history) (sym same) (stops_behind (answers.Page page) grown reply stops)

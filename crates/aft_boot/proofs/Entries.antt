@@ -1,7 +1,7 @@
 -- What the turns of a start did at the door, and what they show.
-use Rattle.std.proofs.Common.{◌≡◌, ◌≤◌, ℕ, Bool, true, false, ◌&&◌, ◌||◌, not, List, [], ◌∷◌, ◌++◌, eqb, length, refl, sym, ap, subst, ◌∙◌, append-nil, append_assoc, arith}
-use Rattle.std.specs.Prelude.{IsFalse, IsTrue, None, Option, Some, filter, if◌then◌else◌, is_some, map}
-use Rattle.std.specs.List.{flat_map, fold, list_all, list_any}
+use Rattle.std.proofs.Common.{◌≡◌, ℕ, Bool, true, false, ◌&&◌, ◌||◌, not, List, [], ◌∷◌, ◌++◌, eqb, refl, sym, ap, ◌∙◌, append-nil, append_assoc}
+use Rattle.std.specs.Prelude.{IsTrue, None, Option, Some, filter, if◌then◌else◌, is_some, map}
+use Rattle.std.specs.List.{flat_map, list_all, list_any}
 use Rattle.std.specs.Str.{bytes_eq}
 use Rattle.std.proofs.lemmas.Bool.{and_from, and_parts, eq-eqb, false≢true, or_left, or_right}
 use Rattle.std.proofs.lemmas.List.Concat.{flat_map-append}
@@ -12,10 +12,9 @@ use Rattle.aft_keeper.specs.declared.keeper.Pair.{Pair}
 use Rattle.aft_model.specs.declared.caller.By.{By}
 use Rattle.aft_model.specs.declared.door.DoorAct.TheVariants.{Up}
 use Rattle.aft_model.specs.declared.door.DoorEntry.{DoorEntry}
-use Rattle.aft_model.specs.declared.node.NodeAct.TheVariants as acts
 use Rattle.aft_model.specs.declared.node.NodeEntry.{NodeEntry}
 use Rattle.aft_model.specs.declared.reply.Reply.{Reply}
-use Rattle.aft_model.specs.Membership.{incarnation, same_incarnation}
+use Rattle.aft_model.specs.Membership.{incarnation}
 use Rattle.aft_model.specs.Readings.{has_reading}
 use Rattle.aft_model.specs.Replies.{is_silent}
 use Rattle.aft_model.specs.ScanRun.{ScanPage, page_in, same_line, scan_pages}
@@ -23,10 +22,9 @@ use Rattle.aft_model.specs.Sound.{markers_prefix, records_prefix}
 use Rattle.aft_model.proofs.OneCommit.{same_itself}
 use Rattle.aft_lines.specs.CausesScans.{damage_in, is_damage, listed_in}
 use Rattle.aft_lines.specs.LineCourse.{answers_last}
-use Rattle.aft_lines.specs.LineView.{NodeTurn, door_entry_in, node_turn_in}
+use Rattle.aft_lines.specs.LineView.{door_entry_in, node_turn_in}
 use Rattle.aft_lines.specs.Turns.{AtDoor, AtNode, AtOffice, Turn, answer_in}
 use Rattle.aft_boot.specs.Booted.{PageAt, begun_turns, listed_on, page_act, page_turn, scan_page, up_turns}
-use Rattle.aft_boot.specs.Crashed.{turn_at}
 use Rattle.aft_boot.specs.Pages.{damage}
 use Rattle.aft_turns.specs.Stands.{end_answer}
 

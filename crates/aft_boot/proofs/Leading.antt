@@ -1,8 +1,7 @@
 -- How far a call for a page leads.
-use Rattle.std.proofs.Common.{◌≡◌, ◌+◌, ◌-◌, ◌/◌, ◌≤◌, ◌<◌, ℕ, Bool, true, false, ◌&&◌, List, [], ◌∷◌, ◌++◌, length, refl, sym, ap, subst, ◌∙◌, inl, inr, arith}
+use Rattle.std.proofs.Common.{◌≡◌, ◌+◌, ◌-◌, ◌/◌, ◌<◌, ℕ, Bool, true, false, List, [], length, refl, sym, subst, arith}
 use Rattle.std.specs.Prelude.{Err, IfOk, IsTrue, None, Ok, Option, Result, Some, if◌then◌else◌}
 use Rattle.std.proofs.lemmas.Bool.{and_parts, false≢true}
-use Rattle.aft_keeper.specs.Cause.{HasCause}
 use Rattle.aft_keeper.specs.declared.keeper.KeeperAnswer.TheVariants.{Page}
 use Rattle.aft_keeper.specs.declared.keeper.KeeperCall.TheVariants.{Scan}
 use Rattle.aft_keeper.specs.declared.keeper.Pair.{Pair}
@@ -21,7 +20,6 @@ use Rattle.aft_door.specs.Entries.{called}
 use Rattle.aft_door.specs.Refusals.{RefusedBy, if_past, is_past}
 use Rattle.aft_door.specs.declared.fault.DoorFault.{DoorFault}
 use Rattle.aft_door.specs.declared.fault.DoorFault.TheVariants as faults
-use Rattle.aft_node.specs.declared.goes.BootEnd.{BootEnd}
 use Rattle.aft_node.specs.declared.goes.BootEnd.TheVariants.{Refused, Shown}
 use Rattle.aft_boot.specs.Booted.{told_fault_at}
 use Rattle.aft_boot.specs.BootView.{Fits, HasListed, behind_page, left_at, refusal_of, up_stage}
@@ -29,7 +27,6 @@ use Rattle.aft_boot.specs.Pages.{LeadsTo, Reads, ReadsTo, StopsPage, are_records
 use Rattle.aft_boot.specs.declared.stage.Stage.{Stage}
 use Rattle.aft_boot.specs.declared.stage.Stage.TheVariants.{Begins, ComesUp, Ended, Ends, Scans}
 use Rattle.aft_boot.proofs.Pairs.{all_differ, full_page, lists_on, page_under}
-use Rattle.aft_turns.specs.Steps.{SameStore}
 
 -- ---- what the door tells
 
@@ -43,17 +40,6 @@ is_page_shown who after old new (Ok page) shows legal =
 pub are_under : (after : List ℕ) (told : Result (List Pair) DoorFault) → IfOk told (λ page. IsTrue (is_page records_prefix after 64 page)) → IfOk told (λ page. IsTrue (are_records page))
 are_under after (Ok page) is = page_under after page is
 are_under after (Err fault) is = tt
-
--- what was told at first stays
-pub kept_store : (who : Caller) (after : List ℕ) (old new : DoorView) (told : Result (List Pair) DoorFault) → Shows told_page old who (Scan records_prefix after 64) told new → SameStore old new
-kept_store who after old new (Ok page) shows = record { contents = shows.first_contents; log = shows.first_log }
-kept_store who after old new (Err faults.Memory) (answer, untold, asks) = record { contents = asks.first_contents; log = asks.first_log }
-kept_store who after old new (Err faults.Failed) shows = record { contents = shows.first_contents; log = shows.first_log }
-kept_store who after old new (Err (faults.Fenced n i)) shows = record { contents = shows.first_contents; log = shows.first_log }
-kept_store who after old new (Err (faults.Busy n i)) shows = record { contents = shows.first_contents; log = shows.first_log }
-kept_store who after old new (Err faults.Forgotten) shows = record { contents = shows.first_contents; log = shows.first_log }
-kept_store who after old new (Err faults.NotHolder) shows = record { contents = shows.first_contents; log = shows.first_log }
-kept_store who after old new (Err (faults.Holdout n i)) shows = record { contents = shows.first_contents; log = shows.first_log }
 
 -- ---- what comes of it
 
@@ -78,13 +64,6 @@ stop_fits listed page replies.TooManyRecords stops = refl
 stop_fits listed page (replies.Damaged written) stops = refl
 stop_fits listed page replies.NoMemory stops = refl
 stop_fits listed page reply stops = absurd stops
-
-stop_works : (listed : ℕ) (page : List Pair) (reply : Reply) → StopsPage listed page reply → reply ≡ replies.StoreFault → ⊥
-stop_works listed page reply stops is = absurd (subst (StopsPage listed page) is stops)
-
-fault_told : (inc : ℕ) (reply : Reply) → IsTrue (told_fault_at (Ends inc (Refused reply))) → reply ≡ replies.StoreFault
-fault_told inc replies.StoreFault is = refl
-fault_told inc reply is = absurd (false≢true is)
 
 pub refusal_failed : (node inc : ℕ) (fault : DoorFault) → IsTrue (told_fault_at (Ends inc (Refused (refusal_of node inc fault)))) → fault ≡ faults.Failed
 refusal_failed node inc faults.Failed is = refl
@@ -121,21 +100,6 @@ module _ (node inc listed : ℕ) (after : List ℕ) (commits : List Commit) (lis
   pub leads_left : (told : Result (List Pair) DoorFault) (stage : Stage) → LeadsTo node inc listed commits told stage → left_at stage < 314 - listed / 64
   leads_left (Ok page) stage leads = page_left page stage leads
   leads_left (Err fault) stage leads = subst (λ (s : Stage). left_at s < 314 - listed / 64) (sym leads) one_left
-
-failed_by : (node inc listed : ℕ) (commits : List Commit) (page : List Pair) (stage : Stage) → ReadsTo page inc listed commits stage → IsTrue (told_fault_at stage) → ⊥
-failed_by node inc listed commits page (Ends other (Refused reply)) (same, stops) is = stop_works listed page reply stops (fault_told other reply is)
-failed_by node inc listed commits page (Ends other (Shown all)) leads is = false≢true is
-failed_by node inc listed commits page (Scans other next count all) leads is = false≢true is
-failed_by node inc listed commits page Begins leads is = absurd leads
-failed_by node inc listed commits page (ComesUp other) leads is = absurd leads
-failed_by node inc listed commits page Ended leads is = absurd leads
-
-failed_told : (node inc listed : ℕ) (commits : List Commit) (told : Result (List Pair) DoorFault) (stage : Stage) → LeadsTo node inc listed commits told stage → IsTrue (told_fault_at stage) → told ≡ Err faults.Failed
-failed_told node inc listed commits (Ok page) stage leads is = absurd (failed_by node inc listed commits page stage leads is)
-failed_told node inc listed commits (Err fault) stage leads is = ap (λ (f : DoorFault). Err f) (refusal_failed node inc fault (subst (λ (s : Stage). IsTrue (told_fault_at s)) leads is))
-
-pub cause_told : (node inc listed : ℕ) (commits : List Commit) (told : Result (List Pair) DoorFault) (stage : Stage) (before now : ℕ) → LeadsTo node inc listed commits told stage → HasCause (told ≡ Err faults.Failed) before now → HasCause (IsTrue (told_fault_at stage)) before now
-cause_told node inc listed commits told stage before now leads cause = record { never_falls = cause.never_falls; rose = λ is. cause.rose (failed_told node inc listed commits told stage leads is) }
 
 -- ---- how far the coming up leads
 

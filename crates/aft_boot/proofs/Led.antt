@@ -1,21 +1,19 @@
 -- Where the turns of a start lead.
 use Rattle.std.proofs.Common.{◌≡◌, ◌+◌, ◌≤◌, ℕ, Bool, true, false, ◌&&◌, ◌||◌, not, List, [], ◌∷◌, ◌++◌, eqb, length, length-append, refl, sym, ap, subst, ◌∙◌, ◌⊎◌, inl, inr, append-nil, append_assoc, arith}
 use Rattle.std.specs.Prelude.{IsTrue, None, Option, Some, if◌then◌else◌, map, nat_le}
-use Rattle.std.specs.List.{flat_map, fold, list_all}
+use Rattle.std.specs.List.{fold, list_all}
 use Rattle.std.specs.Str.{bytes_eq}
-use Rattle.std.proofs.lemmas.Bool.{and_from, and_parts, eq-eqb, false≢true, le-leb, or_left, or_right}
+use Rattle.std.proofs.lemmas.Bool.{and_from, and_parts, eq-eqb, false≢true, le-leb}
 use Rattle.std.proofs.lemmas.List.Folds.{list_all-append}
 use Rattle.std.proofs.lemmas.List.Sums.{fold-append}
 use Rattle.aft_keeper.specs.declared.keeper.KeeperAnswer.{KeeperAnswer}
 use Rattle.aft_keeper.specs.declared.keeper.KeeperAnswer.TheVariants as answers
 use Rattle.aft_keeper.specs.declared.keeper.Pair.{Pair}
 use Rattle.aft_model.specs.declared.caller.By.{By}
-use Rattle.aft_model.specs.declared.door.DoorAct.TheVariants.{Up}
 use Rattle.aft_model.specs.declared.node.NodeAct.{NodeAct}
 use Rattle.aft_model.specs.declared.node.NodeAct.TheVariants as acts
 use Rattle.aft_model.specs.declared.node.NodeEntry.{NodeEntry}
 use Rattle.aft_model.specs.declared.reply.Reply.{Reply}
-use Rattle.aft_model.specs.declared.reply.Reply.TheVariants as replies
 use Rattle.aft_model.specs.declared.script.Command.TheVariants as commands
 use Rattle.aft_model.specs.Membership.{Incarnation, incarnation, same_incarnation}
 use Rattle.aft_model.specs.NodeState.{node_state}
@@ -24,13 +22,12 @@ use Rattle.aft_model.specs.ScanRun.{ends, goes_on, is_scan_run, next_after}
 use Rattle.aft_model.specs.Sound.{records_prefix}
 use Rattle.aft_model.proofs.OneCommit.{same_itself}
 use Rattle.aft_model.proofs.Sights.{bytes_eq-refl, same_bytes}
-use Rattle.aft_lines.specs.Advance.{HasEnded, advance, advanced, behind_answer, behind_boot_page, behind_name, booted_by, boot_paged, if_so, is_led_to_end, leads_to, paged_by, scan_of, scanned_by, with_page}
+use Rattle.aft_lines.specs.Advance.{HasEnded, advance, advanced, behind_answer, behind_boot_page, behind_name, booted_by, if_so, is_led_to_end, leads_to, paged_by, scan_of, scanned_by, with_page}
 use Rattle.aft_lines.specs.CourseWords.{Ends, closes}
 use Rattle.aft_lines.specs.LineCourse.{ends_boot}
-use Rattle.aft_lines.specs.LineView.{has_left}
 use Rattle.aft_lines.specs.Progress.{BootScan, BootScanned, IsOver, MustComeUp, NotBegun, Progress, Scanning}
 use Rattle.aft_lines.specs.ScanCourse.{names_limit, stops_at}
-use Rattle.aft_lines.specs.Turns.{AtDoor, AtNode, Turn}
+use Rattle.aft_lines.specs.Turns.{AtDoor, Turn}
 use Rattle.aft_boot.specs.Booted.{AreRead, PageAt, begun_turns, listed_on, page_act, page_turn, scan_page, up_turns}
 use Rattle.aft_boot.specs.Crashed.{turn_at}
 
@@ -106,15 +103,15 @@ module _ (node inc : ℕ) (nodes : List ℕ) (ends_so : Ends) where
 
   fine_first : (listed : List Pair) (page : PageAt) (pages : List PageAt) → Fine listed (page ∷ pages) → (length listed + length page.listed ≤ 20000) × IsTrue (list_all has_reading page.listed)
   fine_first listed page pages (few, readable) = (
-      let l = length-append page.listed (listed_on pages) in omega arith,
-      (and_parts (list_all has_reading page.listed) (list_all has_reading (listed_on pages)) (sym (list_all-append has_reading page.listed (listed_on pages)) ∙ readable)).0,
-    )
+    let l = length-append page.listed (listed_on pages) in omega arith,
+    (and_parts (list_all has_reading page.listed) (list_all has_reading (listed_on pages)) (sym (list_all-append has_reading page.listed (listed_on pages)) ∙ readable)).0,
+  )
 
   fine_rest : (listed : List Pair) (page : PageAt) (pages : List PageAt) → Fine listed (page ∷ pages) → Fine (listed ++ page.listed) pages
   fine_rest listed page pages (few, readable) = (
-      let l = length-append page.listed (listed_on pages) in let m = length-append listed page.listed in omega arith,
-      (and_parts (list_all has_reading page.listed) (list_all has_reading (listed_on pages)) (sym (list_all-append has_reading page.listed (listed_on pages)) ∙ readable)).1,
-    )
+    let l = length-append page.listed (listed_on pages) in let m = length-append listed page.listed in omega arith,
+    (and_parts (list_all has_reading page.listed) (list_all has_reading (listed_on pages)) (sym (list_all-append has_reading page.listed (listed_on pages)) ∙ readable)).1,
+  )
 
   none_some : (name : List ℕ) → None ≡ Some name → ⊥
   none_some name e = cc

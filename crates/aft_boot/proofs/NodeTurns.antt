@@ -1,5 +1,5 @@
 -- The turns of a start at its node, by what the node does.
-use Rattle.std.proofs.Common.{◌≡◌, ℕ, suc, Bool, true, false, ◌||◌, not, List, [], ◌∷◌, ◌++◌, max, refl, sym, ap, subst, ◌∙◌, ◌⊎◌, inl, inr, arith}
+use Rattle.std.proofs.Common.{◌≡◌, ℕ, Bool, true, false, List, [], ◌∷◌, ◌++◌, max, refl, sym, ap, subst, ◌∙◌, ◌⊎◌, inl, inr, arith}
 use Rattle.std.specs.Prelude.{IsFalse, IsTrue, None, Option, Some}
 use Rattle.std.proofs.lemmas.Bool.{eq-eqb, false≢true, or_cases}
 use Rattle.aft_model.specs.declared.caller.By.{By}
@@ -23,11 +23,9 @@ use Rattle.aft_node.specs.declared.goes.BootGo.{BootGo}
 use Rattle.aft_node.specs.declared.goes.BootGo.TheVariants as goes
 use Rattle.aft_boot.specs.Booted.{BootsSo, Closes, may_end_at, made_at}
 use Rattle.aft_boot.specs.BootView.{begun_stage}
-use Rattle.aft_boot.specs.Crashed.{turn_at}
-use Rattle.aft_boot.specs.declared.stage.Stage.{Stage}
 use Rattle.aft_boot.specs.declared.stage.Stage.TheVariants.{Begins, ComesUp, Ended, Ends}
 use Rattle.aft_turns.specs.Steps.{StepsAtNode, entry_of}
-use Rattle.aft_turns.specs.Trail.{Trail, behind}
+use Rattle.aft_turns.specs.Trail.{Trail}
 
 -- the incarnation that boots next is the newest then
 newest_boot : (node capacity : ℕ) (history : List NodeEntry) → LegalNode node capacity history → max (newest history) (next_boot history (node_state history)) ≡ next_boot history (node_state history)
@@ -42,27 +40,31 @@ module _ (by : By) (handed : ℕ) (old new : NodeView) where
   -- the first turn answered
   answers : (reply : Reply) → (reply ≡ replies.NoMemory) ⊎ (boot_refusal old.number (node_state old.history) ≡ Some reply) → new ≡ answered handed by reply old → StepsAtNode by handed (made_at by old.number Begins) (made_at by old.number Ended) old new
   answers reply why is = (
-      acts.Nothing, Some reply, is,
-      λ trail made. inl (record {
-        before = old.history;
-        front = max old.front handed;
-        reply = reply;
-        turns = ap (λ (t : Trail). t.turns ++ AtNode old.number old.history (entry_of by handed old acts.Nothing (Some reply)) ∷ []) made;
-        answers = why;
-      })
-    )
+    acts.Nothing,
+    Some reply,
+    is,
+    λ trail made. inl (record {
+      before = old.history;
+      front = max old.front handed;
+      reply = reply;
+      turns = ap (λ (t : Trail). t.turns ++ AtNode old.number old.history (entry_of by handed old acts.Nothing (Some reply)) ∷ []) made;
+      answers = why;
+    }),
+  )
 
   -- a boot begins
   begins : LegalNode old.number old.capacity old.history → new ≡ after_entry handed by (acts.Booting (next_of old)) None old → StepsAtNode by handed (made_at by old.number Begins) (made_at by old.number (ComesUp (next_of old))) old new
   begins legal is = (
-      acts.Booting (next_of old), None, is,
-      λ trail made. record {
-        before = old.history;
-        front = max old.front handed;
-        newest = newest_boot old.number old.capacity old.history legal;
-        turns = ap (λ (t : Trail). t.turns ++ AtNode old.number old.history (entry_of by handed old (acts.Booting (next_of old)) None) ∷ []) made;
-      }
-    )
+    acts.Booting (next_of old),
+    None,
+    is,
+    λ trail made. record {
+      before = old.history;
+      front = max old.front handed;
+      newest = newest_boot old.number old.capacity old.history legal;
+      turns = ap (λ (t : Trail). t.turns ++ AtNode old.number old.history (entry_of by handed old (acts.Booting (next_of old)) None) ∷ []) made;
+    },
+  )
 
   pub first_turn : LegalNode old.number old.capacity old.history → (go : BootGo) → Leads handed by goes.Answered (boot_refusal old.number (node_state old.history)) (after_entry handed by (acts.Booting (next_of old)) None old) (goes.Go (caller old.number (next_of old) by)) old new go → StepsAtNode by handed (made_at by old.number Begins) (made_at by old.number (begun_stage go)) old new
   first_turn legal go leads = by_refusal (boot_refusal old.number (node_state old.history)) refl leads
@@ -80,21 +82,23 @@ module _ (by : By) (handed : ℕ) (old new : NodeView) where
   module _ (inc : ℕ) (end : BootEnd) where
     over : (act : NodeAct) (reply : Reply) → Closes old.number inc end old.history act reply → new ≡ after_entry handed by act (Some reply) old → StepsAtNode by handed (made_at by old.number (Ends inc end)) (made_at by old.number Ended) old new
     over act reply closes is = (
-        act, Some reply, is,
-        λ trail made. inr (record {
-          inc = inc;
-          end = end;
-          since = trail;
-          before = old.history;
-          front = max old.front handed;
-          act = act;
-          reply = reply;
-          is_to = made;
-          turns = refl;
-          look = refl;
-          closes = closes;
-        })
-      )
+      act,
+      Some reply,
+      is,
+      λ trail made. inr (record {
+        inc = inc;
+        end = end;
+        since = trail;
+        before = old.history;
+        front = max old.front handed;
+        act = act;
+        reply = reply;
+        is_to = made;
+        turns = refl;
+        look = refl;
+        closes = closes;
+      }),
+    )
 
     pub last_turn : (result : Bool) → may_end_at (Ends inc end) old.history → (IsTrue (boots inc (node_state old.history)) → BootEnds handed by inc end old new result) → (IsFalse (boots inc (node_state old.history)) → (new ≡ answered handed by (down_reply old inc) old) × (result ≡ false)) → StepsAtNode by handed (made_at by old.number (Ends inc end)) (made_at by old.number Ended) old new
     last_turn result may runs gone = by_boot (boots inc (node_state old.history)) refl

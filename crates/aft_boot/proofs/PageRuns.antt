@@ -1,13 +1,12 @@
 -- Pages that are read one behind the other.
-use Rattle.std.proofs.Common.{◌≡◌, ◌+◌, ◌≤◌, ℕ, Bool, true, false, ◌&&◌, List, [], ◌∷◌, ◌++◌, length, length-append, refl, sym, ap, subst, ◌∙◌, append-nil, append_assoc, arith}
+use Rattle.std.proofs.Common.{◌≡◌, ◌+◌, ℕ, Bool, true, false, ◌&&◌, List, [], ◌∷◌, ◌++◌, length, length-append, refl, sym, ap, subst, ◌∙◌, append-nil, append_assoc, arith}
 use Rattle.std.specs.Prelude.{IsTrue, None, Option, Some, if◌then◌else◌, map}
-use Rattle.std.specs.List.{flat_map, list_all}
+use Rattle.std.specs.List.{list_all}
 use Rattle.std.specs.Str.{bytes_eq}
 use Rattle.std.proofs.lemmas.Bool.{and_from}
 use Rattle.std.proofs.lemmas.List.{map-append}
 use Rattle.std.proofs.lemmas.List.Concat.{flat_map-append}
 use Rattle.std.proofs.lemmas.List.Folds.{list_all-append}
-use Rattle.aft_keeper.specs.declared.keeper.KeeperAnswer.TheVariants.{Page}
 use Rattle.aft_keeper.specs.declared.keeper.Pair.{Pair}
 use Rattle.aft_records.specs.declared.stored.Commit.{Commit}
 use Rattle.aft_model.specs.declared.caller.By.{By}
@@ -70,8 +69,8 @@ module _ (pages : List PageAt) (page : PageAt) where
   read_more listed commits all count read reads = record {
     few = let c = count_more in let f = reads.few in omega arith;
     readable =
-      subst (λ (ps : List Pair). IsTrue (list_all has_reading ps)) (sym listed_more)
-      (list_all-append has_reading (listed_on pages) page.listed ∙ and_from _ _ read.readable reads.readable);
+        subst (λ (ps : List Pair). IsTrue (list_all has_reading ps)) (sym listed_more)
+        (list_all-append has_reading (listed_on pages) page.listed ∙ and_from _ _ read.readable reads.readable);
   }
 
   pub shown_more : (listed : ℕ) (commits all : List Commit) → commits ≡ recorded (listed_on pages) → Reads page.listed listed commits all → all ≡ recorded (listed_on (pages ++ page ∷ []))

@@ -1,10 +1,10 @@
 -- What pairs in the order of their names show: each record has a commit of its own.
-use Rattle.std.proofs.Common.{◌≡◌, ◌+◌, ◌≤◌, ◌<◌, ℕ, Bool, true, false, true≢false, ◌&&◌, ◌||◌, not, List, [], ◌∷◌, ◌++◌, eqb, length, length-append, refl, sym, ap, subst, ◌∙◌, ◌⊎◌, inl, inr, append-nil, arith}
+use Rattle.std.proofs.Common.{◌≡◌, ◌+◌, ◌≤◌, ℕ, Bool, true, false, true≢false, ◌&&◌, ◌||◌, not, List, [], ◌∷◌, ◌++◌, eqb, length, length-append, refl, sym, ap, subst, ◌∙◌, inl, inr, arith}
 use Rattle.std.specs.Prelude.{Err, IsFalse, IsTrue, None, Ok, Option, Result, Some, if◌then◌else◌, nat_eq, nat_le, nat_lt}
-use Rattle.std.specs.List.{flat_map, last_or, list_all, list_any, starts_with}
+use Rattle.std.specs.List.{last_or, list_all, starts_with}
 use Rattle.std.specs.Option.{option_map}
 use Rattle.std.specs.Str.{bytes_eq}
-use Rattle.std.proofs.lemmas.Bool.{and_from, and_parts, eqb-true, false_from_ne_true, false≢true, ltb-false, or_cases, or_left, or_right}
+use Rattle.std.proofs.lemmas.Bool.{and_from, and_parts, eqb-true, false_from_ne_true, false≢true, ltb-false, or_cases}
 use Rattle.std.proofs.lemmas.List.Concat.{flat_map-append}
 use Rattle.std.proofs.lemmas.List.Folds.{list_any-append}
 use Rattle.aft_keeper.specs.declared.keeper.Pair.{Pair}
@@ -13,13 +13,11 @@ use Rattle.aft_keeper.proofs.Names.{bytes_eq-Less, Less-from_name_lt, name_lt-fr
 use Rattle.aft_records.specs.Commits.{has_id}
 use Rattle.aft_records.specs.declared.fault.RecordFault.{RecordFault}
 use Rattle.aft_records.specs.declared.stored.Commit.{Commit}
-use Rattle.aft_records.specs.declared.stored.Marker.{Marker}
-use Rattle.aft_records.specs.declared.stored.Version.{Version}
-use Rattle.aft_records.specs.Reading.{commit_of, marker_of, version_of}
+use Rattle.aft_records.specs.Reading.{commit_of}
 use Rattle.aft_id.specs.TxnId.{same_id}
 use Rattle.aft_id.specs.declared.txn_id.TxnId.{TxnId}
 use Rattle.aft_model.specs.LegalDoor.{ascends, is_page}
-use Rattle.aft_model.specs.Readings.{has_reading, id_of_marker, marker_name, markers_in, read_under, record_name, records_in, version_name, versions_in}
+use Rattle.aft_model.specs.Readings.{has_reading, markers_in, read_under, record_name, records_in, versions_in}
 use Rattle.aft_model.specs.ScanRun.{next_after}
 use Rattle.aft_model.specs.Sound.{recorded, records_prefix}
 use Rattle.aft_model.proofs.Growth.{all_implied}
@@ -30,33 +28,12 @@ use Rattle.aft_ledger.specs.Turns.{ids_differ}
 use Rattle.aft_boot.specs.BootView.{HasListed}
 use Rattle.aft_boot.specs.Pages.{Reads, are_records, is_record}
 
--- ---- a pair under a name of records
-
--- nothing is read under the name of another thing
-nothing_under : {A : Type 0} (name : List ℕ) (its_name : A → List ℕ) (read : Result A RecordFault) → ((x : A) → name ≡ its_name x → ⊥) → read_under name its_name read ≡ []
-nothing_under name its_name (Ok x) other = ap (λ (t : Bool). if t then x ∷ [] else []) (false_from_ne_true (bytes_eq name (its_name x)) (λ same. other x (same_bytes name (its_name x) same)))
-nothing_under name its_name (Err e) other = refl
-
-marker_elsewhere : (name uuid : List ℕ) → IsTrue (starts_with nat_eq name records_prefix) → name ≡ marker_name uuid → ⊥
-marker_elsewhere name uuid under same = false≢true (subst (λ (n : List ℕ). IsTrue (starts_with nat_eq n records_prefix)) same under)
-
-version_elsewhere : (name key : List ℕ) (id : TxnId) → IsTrue (starts_with nat_eq name records_prefix) → name ≡ version_name key id → ⊥
-version_elsewhere name key id under same = false≢true (subst (λ (n : List ℕ). IsTrue (starts_with nat_eq n records_prefix)) same under)
-
--- it has a reading only as a record
-pub unread : (pair : Pair) → IsTrue (is_record pair) → records_in pair ≡ [] → IsFalse (has_reading pair)
-unread pair under none = rw (none, no_marker, no_version) refl
-  where
-    no_marker : markers_in pair ≡ []
-    no_marker = nothing_under pair.name (λ (m : Marker). marker_name (id_of_marker m).uuid) (marker_of pair.bytes) (λ m same. marker_elsewhere pair.name (id_of_marker m).uuid under same)
-
-    no_version : versions_in pair ≡ []
-    no_version = nothing_under pair.name (λ (v : Version). version_name v.key v.id) (version_of pair.bytes) (λ v same. version_elsewhere pair.name v.key v.id under same)
+-- ---- a pair with a record
 
 not_none : (n m : ℕ) → IsTrue (not (eqb (1 + n + m) 0))
 not_none n m = ap not (false_from_ne_true (eqb (1 + n + m) 0) (λ is. let e : 1 + n + m ≡ 0 = eqb-true (1 + n + m) 0 is in omega arith))
 
--- and has one as a record
+-- it has a reading
 pub read : (pair : Pair) (c : Commit) → records_in pair ≡ c ∷ [] → IsTrue (has_reading pair)
 read pair c one = subst (λ (cs : List Commit). IsTrue (not (eqb (length cs + length (markers_in pair) + length (versions_in pair)) 0))) (sym one) (not_none (length (markers_in pair)) (length (versions_in pair)))
 

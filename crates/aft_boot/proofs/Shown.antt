@@ -1,20 +1,19 @@
--- What the pairs of a page show, one by one; and a name as it is written.
-use Rattle.std.proofs.Common.{◌≡◌, ◌+◌, ◌<◌, ℕ, zero, suc, Bool, true, false, ◌||◌, not, List, [], ◌∷◌, ◌++◌, length, get_or, take, refl, sym, ap, subst, ◌∙◌, append-nil, append_assoc, arith}
-use Rattle.std.specs.Prelude.{IsFalse, IsTrue, None, Option, Some, filter, if◌then◌else◌, map}
-use Rattle.std.specs.List.{flat_map, list_all}
-use Rattle.std.proofs.lemmas.Bool.{and_from, and_parts, true≢false}
-use Rattle.std.proofs.lemmas.List.{map-append, take_more}
+-- What the pairs of a page show, one by one.
+use Rattle.std.proofs.Common.{◌≡◌, ◌+◌, ◌<◌, ℕ, zero, suc, Bool, false, ◌||◌, not, List, [], ◌∷◌, ◌++◌, length, get_or, take, sym, ap, subst, ◌∙◌, append-nil, append_assoc, arith}
+use Rattle.std.specs.Prelude.{IsFalse, IsTrue, None, Some, filter, if◌then◌else◌, map}
+use Rattle.std.specs.List.{list_all}
+use Rattle.std.proofs.lemmas.Bool.{and_from, and_parts}
+use Rattle.std.proofs.lemmas.List.{take_more}
 use Rattle.std.proofs.lemmas.List.Concat.{flat_map-append}
 use Rattle.std.proofs.lemmas.List.Folds.{list_all_more}
 use Rattle.aft_keeper.specs.declared.keeper.Pair.{Pair}
-use Rattle.aft_records.specs.Limits.{is_key_byte}
 use Rattle.aft_records.specs.declared.stored.Commit.{Commit}
 use Rattle.aft_model.specs.declared.reply.Reply.{Reply}
 use Rattle.aft_model.specs.declared.reply.Reply.TheVariants as replies
 use Rattle.aft_model.specs.History.{first_of}
 use Rattle.aft_model.specs.Readings.{has_reading, records_in}
 use Rattle.aft_model.specs.Sound.{recorded}
-use Rattle.aft_lines.specs.CausesScans.{is_damage, written_name}
+use Rattle.aft_lines.specs.CausesScans.{is_damage}
 use Rattle.aft_boot.specs.Pages.{IsDamage, IsNotRead, damage}
 use Rattle.aft_boot.proofs.Pairs.{read}
 
@@ -40,17 +39,12 @@ not_read pairs i p reply within at readable damaged = absurd damaged
 pub read_step : (before now new : List Commit) (pairs : List Pair) (i : ℕ) (p : Pair) (c : Commit) → i < length pairs → p ≡ get_or pairs i p → records_in p ≡ c ∷ [] → (now ≡ before ++ recorded (take i pairs)) × IsTrue (list_all has_reading (take i pairs)) → new ≡ now ++ c ∷ []
     → (new ≡ before ++ recorded (take (i + 1) pairs)) × IsTrue (list_all has_reading (take (i + 1) pairs))
 read_step before now new pairs i p c within at one so_far added = (
-    added ∙ (ap (λ (cs : List Commit). cs ++ c ∷ []) so_far.0 ∙ (append_assoc before (recorded (take i pairs)) (c ∷ []) ∙ ap (λ (cs : List Commit). before ++ cs) (sym more))),
-    list_all_more has_reading pairs i p within ∙ and_from _ _ so_far.1 (subst (λ (x : Pair). IsTrue (has_reading x)) at (read p c one)),
-  )
+  added ∙ (ap (λ (cs : List Commit). cs ++ c ∷ []) so_far.0 ∙ (append_assoc before (recorded (take i pairs)) (c ∷ []) ∙ ap (λ (cs : List Commit). before ++ cs) (sym more))),
+  list_all_more has_reading pairs i p within ∙ and_from _ _ so_far.1 (subst (λ (x : Pair). IsTrue (has_reading x)) at (read p c one)),
+)
   where
     more : recorded (take (i + 1) pairs) ≡ recorded (take i pairs) ++ c ∷ []
     more =
         ap recorded (take_more pairs i p within)
         ∙ (flat_map-append records_in (take i pairs) (get_or pairs i p ∷ [])
         ∙ ap (λ (cs : List Commit). recorded (take i pairs) ++ cs) (append-nil (records_in (get_or pairs i p)) ∙ (ap records_in (sym at) ∙ one)))
-
--- ---- a name
-
-pub written_more : (name : List ℕ) (i : ℕ) → i < length name → written_name (take (i + 1) name) ≡ written_name (take i name) ++ (if is_key_byte (get_or name i 0) then get_or name i 0 else 63) ∷ []
-written_more name i within = ap written_name (take_more name i 0 within) ∙ map-append (λ (byte : ℕ). if is_key_byte byte then byte else 63) (take i name) (get_or name i 0 ∷ [])

@@ -1,6 +1,6 @@
 -- Who came up at the door, and who is up there.
-use Rattle.std.proofs.Common.{◌≡◌, ◌≢◌, ℕ, Bool, true, false, ◌&&◌, ◌||◌, not, List, [], ◌∷◌, ◌++◌, eqb, refl, sym, ap, subst, ◌∙◌, ◌⊎◌, inl, inr}
-use Rattle.std.specs.Prelude.{IsFalse, IsTrue, None, Option, Some, filter, if◌then◌else◌}
+use Rattle.std.proofs.Common.{◌≡◌, ◌≢◌, ℕ, Bool, true, false, ◌||◌, not, List, [], ◌∷◌, ◌++◌, eqb, refl, sym, ap, subst, ◌∙◌, ◌⊎◌, inl, inr}
+use Rattle.std.specs.Prelude.{IsTrue, None, Some, filter, if◌then◌else◌}
 use Rattle.std.specs.List.{flat_map, fold, list_all, list_any}
 use Rattle.std.proofs.lemmas.Bool.{and_from, and_parts, eq-eqb, eqb-true, false≢true, or_cases, or_left, or_right}
 use Rattle.aft_model.specs.declared.door.DoorAct.{DoorAct}
@@ -9,7 +9,6 @@ use Rattle.aft_model.specs.declared.door.DoorEntry.{DoorEntry}
 use Rattle.aft_model.specs.History.{first_of}
 use Rattle.aft_model.specs.Membership.{Incarnation, inc_at, incarnation, is_up, same_incarnation, the_office, up_after, up_now, ups}
 use Rattle.aft_model.specs.NodeSights.{comes_up}
-use Rattle.aft_model.proofs.OneCommit.{same_itself}
 
 some_is : (n m : ℕ) → Some n ≡ Some m → n ≡ m
 some_is n m e = cc
@@ -74,16 +73,16 @@ module _ (who : Incarnation) where
   came_among : (history : List DoorEntry) (among : List Incarnation) → IsTrue (list_any (same_incarnation who) (fold (λ before entry. up_after before entry.act) among history)) → IsTrue (list_any (same_incarnation who) among) ⊎ IsTrue (list_any comes history)
   came_among [] among any = inl any
   came_among (entry ∷ history) among any = elim (came_among history (up_after among entry.act) any) [
-      | inl before ↦ elim (behind_act entry.act among before) [ inl was ↦ inl was | inr comes_now ↦ inr (or_left _ _ comes_now) ]
-      | inr later ↦ inr (or_right _ _ later)
-    ]
+    | inl before ↦ elim (behind_act entry.act among before) [ inl was ↦ inl was | inr comes_now ↦ inr (or_left _ _ comes_now) ]
+    | inr later ↦ inr (or_right _ _ later)
+  ]
 
 -- an incarnation that is up, and not the office's, has come up
 pub has_come_up : (node inc : ℕ) (history : List DoorEntry) → node ≢ 0 → up_now node history ≡ Some inc → IsTrue (list_any (λ entry. comes_up (incarnation node inc) entry.act) history)
 has_come_up node inc history not_office is = elim (came_among (incarnation node inc) history (the_office ∷ []) (now_is_up node inc history is)) [
-    | inl office ↦ absurd (not_office (of_office (or_cases (same_incarnation (incarnation node inc) the_office) false office)))
-    | inr came ↦ came
-  ]
+  | inl office ↦ absurd (not_office (of_office (or_cases (same_incarnation (incarnation node inc) the_office) false office)))
+  | inr came ↦ came
+]
   where
     of_office : IsTrue (same_incarnation (incarnation node inc) the_office) ⊎ IsTrue false → node ≡ 0
     of_office (inl same) = eqb-true node 0 (and_parts (eqb node 0) (eqb inc 1) same).0

@@ -51,13 +51,7 @@ pub(crate) fn step<K: Keeper>(
 }
 
 /// The incarnation comes up, and how far that leads. Where another one is up it goes the way of one that is shut out.
-fn come_up<K: Keeper>(
-    alloc: Global,
-    door: &mut Door<K>,
-    by: By,
-    node: u32,
-    inc: u32,
-) -> Stage
+fn come_up<K: Keeper>(alloc: Global, door: &mut Door<K>, by: By, node: u32, inc: u32) -> Stage
     requires open { IsTrue (is_open door.old.history) }
     requires node { node ≢ 0 }
     ensures left { left_at result < 315 }
@@ -84,13 +78,7 @@ fn is_other_up<K: Keeper>(door: &Door<K>, node: u32, inc: u32) -> bool
 }
 
 /// The incarnation comes up, unless it is up, where no other is.
-fn up<K: Keeper>(
-    alloc: Global,
-    door: &mut Door<K>,
-    by: By,
-    node: u32,
-    inc: u32,
-) -> Stage
+fn up<K: Keeper>(alloc: Global, door: &mut Door<K>, by: By, node: u32, inc: u32) -> Stage
     requires open { IsTrue (is_open door.old.history) }
     requires node { node ≢ 0 }
     requires alone { IfSome (up_now node door.old.history) (λ other. other ≡ inc) }
