@@ -1,7 +1,6 @@
 -- The turns of a start at the door, by what the door tells.
 use Rattle.std.proofs.Common.{◌≡◌, ◌≢◌, ◌+◌, ℕ, Bool, true, false, not, List, [], ◌∷◌, ◌++◌, eqb, length, refl, sym, ap, subst, ◌∙◌, inl, inr, append-nil, arith}
 use Rattle.std.specs.Prelude.{Err, IfSome, IsTrue, None, Ok, OnErr, OnOk, Option, Result, Some, if◌then◌else◌}
-use Rattle.std.specs.List.{flat_map}
 use Rattle.std.proofs.lemmas.Bool.{and_parts, false≢true, not-true, or_cases, true≢false, eq-eqb}
 use Rattle.aft_keeper.specs.declared.keeper.KeeperAnswer.{KeeperAnswer}
 use Rattle.aft_keeper.specs.declared.keeper.KeeperAnswer.TheVariants as answers
@@ -22,16 +21,15 @@ use Rattle.aft_door.specs.Entries.{called, came_up}
 use Rattle.aft_door.specs.Refusals.{RefusedBy, RefusedOrFailed, if_fenced, if_past, is_past}
 use Rattle.aft_door.specs.declared.fault.DoorFault.{DoorFault}
 use Rattle.aft_door.specs.declared.fault.DoorFault.TheVariants as faults
-use Rattle.aft_lines.specs.LineView.{door_entry_in}
 use Rattle.aft_lines.specs.Turns.{AtDoor, Turn}
 use Rattle.aft_node.specs.declared.goes.BootEnd.TheVariants.{Refused, Shown}
-use Rattle.aft_boot.specs.Booted.{HasBegun, IsShutOut, PageAt, begun_turns, made_at, may_call_at, page_act, stood_at}
+use Rattle.aft_boot.specs.Booted.{HasBegun, IsShutOut, PageAt, begun_turns, made_at, may_call_at, page_act}
 use Rattle.aft_boot.specs.BootView.{is_other, refusal_of, up_stage}
 use Rattle.aft_boot.specs.Pages.{LeadsTo, ReadsTo, StopsCall}
 use Rattle.aft_boot.specs.declared.stage.Stage.{Stage}
 use Rattle.aft_boot.specs.declared.stage.Stage.TheVariants.{Begins, ComesUp, Ended, Ends, Scans}
 use Rattle.aft_boot.proofs.PageRuns.{count_more, goes_behind, read_more, shown_more, turns_more, whole_behind}
-use Rattle.aft_boot.proofs.Ups.{has_come_up, no_other_up}
+use Rattle.aft_boot.proofs.Ups.{has_come_up, no_other_up, now_is_up}
 use Rattle.aft_turns.specs.Steps.{SameStore, StepsAtDoor}
 use Rattle.aft_turns.specs.Trail.{Trail}
 
@@ -47,11 +45,11 @@ page_fault fault = Err fault
 
 module _ (by : By) (node inc : ℕ) (old : List DoorEntry) where
   abbrev stood : Trail → Type 0
-  stood trail = stood_at by node (ComesUp inc) old trail
+  stood trail = made_at by node (ComesUp inc) trail
 
   -- what the door told stops it
   look_stops : (reply : Reply) → IsShutOut node inc old reply → (trail : Trail) → stood trail → made_at by node (Ends inc (Refused reply)) (record { turns = trail.turns; look = old })
-  look_stops reply shut trail (begun, sees) = record {
+  look_stops reply shut trail begun = record {
     up = None;
     pages = [];
     more = [];
@@ -66,24 +64,24 @@ module _ (by : By) (node inc : ℕ) (old : List DoorEntry) where
   stops_there new reply same shut = inr (same, look_stops reply shut)
 
   -- another incarnation is up
-  pub other_up : may_call_at node (ComesUp inc) old → is_other inc (up_now node old) ≡ true → IsShutOut node inc old (replies.NodeDown node inc)
+  pub other_up : may_call_at by node (ComesUp inc) old → is_other inc (up_now node old) ≡ true → IsShutOut node inc old (replies.NodeDown node inc)
   other_up may other = by_now (up_now node old) refl other
     where
       by_now : (now : Option ℕ) → up_now node old ≡ now → is_other inc now ≡ true → IsShutOut node inc old (replies.NodeDown node inc)
       by_now None is other = absurd (false≢true other)
-      by_now (Some o) is other = elim (or_cases (is_fenced (incarnation node inc) old) _ may) [
+      by_now (Some o) is other = elim (or_cases (is_fenced (incarnation node inc) old) _ may.0) [
         | inl fenced ↦ inl (refl, fenced)
         | inr alone ↦ absurd (true≢false (sym (eq-eqb o inc (sym (no_other_up node inc o old is (and_parts (not (is_past node inc old)) _ alone).1))) ∙ not-true (eqb o inc) other))
       ]
 
   -- it was fenced, or a newer one was
-  past : may_call_at node (ComesUp inc) old → is_past node inc old ≡ true → IsTrue (is_fenced (incarnation node inc) old)
-  past may is = elim (or_cases (is_fenced (incarnation node inc) old) _ may) [
+  past : may_call_at by node (ComesUp inc) old → is_past node inc old ≡ true → IsTrue (is_fenced (incarnation node inc) old)
+  past may is = elim (or_cases (is_fenced (incarnation node inc) old) _ may.0) [
     | inl fenced ↦ fenced
     | inr alone ↦ absurd (true≢false (sym is ∙ not-true (is_past node inc old) (and_parts (not (is_past node inc old)) _ alone).0))
   ]
 
-  module _ (not_office : node ≢ 0) (before after : DoorView) (here : before.history ≡ old) (may : may_call_at node (ComesUp inc) old) where
+  module _ (not_office : node ≢ 0) (before after : DoorView) (here : before.history ≡ old) (may : may_call_at by node (ComesUp inc) old) where
     -- it had come up before
     was_up : up_now node old ≡ Some inc → after ≡ before → StepsAtDoor by stood (made_at by node (Scans inc [] 0 [])) old after.history
     was_up is same = inr (
@@ -91,8 +89,8 @@ module _ (by : By) (node inc : ℕ) (old : List DoorEntry) where
       λ trail its. record {
         up = None;
         pages = [];
-        begun = record { before = its.0.before; front = its.0.front; newest = its.0.newest; turns = its.0.turns };
-        come = (has_come_up node inc old not_office is, its.1.own ∙ ap (λ (ts : List Turn). flat_map (door_entry_in by) ts) its.0.turns);
+        begun = record { before = its.before; front = its.front; newest = its.newest; turns = its.turns };
+        come = (has_come_up node inc old not_office is, may.1 (now_is_up node inc old is));
         read = record { few = omega arith; readable = refl };
         goes = refl;
         count = refl;
@@ -108,7 +106,7 @@ module _ (by : By) (node inc : ℕ) (old : List DoorEntry) where
       λ trail its. record {
         up = Some (length old);
         pages = [];
-        begun = record { before = its.0.before; front = its.0.front; newest = its.0.newest; turns = ap (λ (ts : List Turn). ts ++ AtDoor (length old) (Up node inc) ∷ []) its.0.turns };
+        begun = record { before = its.before; front = its.front; newest = its.newest; turns = ap (λ (ts : List Turn). ts ++ AtDoor (length old) (Up node inc) ∷ []) its.turns };
         come = tt;
         read = record { few = omega arith; readable = refl };
         goes = refl;
@@ -154,7 +152,7 @@ same_store before after (Some o) inc entry (Ok done) alone again ok err = let it
 
 module _ (by : By) (node inc : ℕ) (after : List ℕ) (listed : ℕ) (commits : List Commit) (old new : DoorView) where
   abbrev scans : Trail → Type 0
-  scans trail = stood_at by node (Scans inc after listed commits) old.history trail
+  scans trail = made_at by node (Scans inc after listed commits) trail
 
   abbrev who : Caller
   who = record { node = node; inc = inc; by = by }
@@ -166,19 +164,19 @@ module _ (by : By) (node inc : ℕ) (after : List ℕ) (listed : ℕ) (commits :
       page_act node inc after answer,
       grown,
       λ trail its. record {
-        up = its.0.up;
-        pages = its.0.pages;
+        up = its.up;
+        pages = its.pages;
         more = AtDoor (length old.history) (page_act node inc after answer) ∷ [];
         after = after;
         begun = record {
-          before = its.0.begun.before;
-          front = its.0.begun.front;
-          newest = its.0.begun.newest;
-          turns = ap (λ (ts : List Turn). ts ++ AtDoor (length old.history) (page_act node inc after answer) ∷ []) (its.0.begun.turns ∙ append-nil (begun_turns by node inc its.0.begun.before its.0.begun.front its.0.up its.0.pages));
+          before = its.begun.before;
+          front = its.begun.front;
+          newest = its.begun.newest;
+          turns = ap (λ (ts : List Turn). ts ++ AtDoor (length old.history) (page_act node inc after answer) ∷ []) (its.begun.turns ∙ append-nil (begun_turns by node inc its.begun.before its.begun.front its.up its.pages));
         };
-        read = its.0.read;
-        goes = its.0.goes;
-        stops = inr (length old.history, answer, refl, subst (λ (n : ℕ). StopsCall answer n reply) its.0.count stops);
+        read = its.read;
+        goes = its.goes;
+        stops = inr (length old.history, answer, refl, subst (λ (n : ℕ). StopsCall answer n reply) its.count stops);
       },
     )
 
@@ -187,13 +185,13 @@ module _ (by : By) (node inc : ℕ) (after : List ℕ) (listed : ℕ) (commits :
   stops_here reply same shut = inr (
     same,
     λ trail its. record {
-      up = its.0.up;
-      pages = its.0.pages;
+      up = its.up;
+      pages = its.pages;
       more = [];
       after = after;
-      begun = record { before = its.0.begun.before; front = its.0.begun.front; newest = its.0.begun.newest; turns = its.0.begun.turns };
-      read = its.0.read;
-      goes = its.0.goes;
+      begun = record { before = its.begun.before; front = its.begun.front; newest = its.begun.newest; turns = its.begun.turns };
+      read = its.read;
+      goes = its.goes;
       stops = inl (refl, shut);
     },
   )
@@ -202,15 +200,15 @@ module _ (by : By) (node inc : ℕ) (after : List ℕ) (listed : ℕ) (commits :
     abbrev it : PageAt
     it = record { place = length old.history; after = after; listed = page }
 
-    begun_more : (trail : Trail) (its : scans trail) → HasBegun by node inc its.0.up (its.0.pages ++ it ∷ []) [] (record { turns = trail.turns ++ AtDoor (length old.history) (page_act node inc after (answers.Page page)) ∷ []; look = trail.look })
+    begun_more : (trail : Trail) (its : scans trail) → HasBegun by node inc its.up (its.pages ++ it ∷ []) [] (record { turns = trail.turns ++ AtDoor (length old.history) (page_act node inc after (answers.Page page)) ∷ []; look = trail.look })
     begun_more trail its = record {
-      before = its.0.begun.before;
-      front = its.0.begun.front;
-      newest = its.0.begun.newest;
+      before = its.begun.before;
+      front = its.begun.front;
+      newest = its.begun.newest;
       turns =
-          ap (λ (ts : List Turn). ts ++ AtDoor (length old.history) (page_act node inc after (answers.Page page)) ∷ []) (its.0.begun.turns ∙ append-nil (begun_turns by node inc its.0.begun.before its.0.begun.front its.0.up its.0.pages))
-          ∙ sym (turns_more its.0.pages it by node inc its.0.begun.before its.0.begun.front its.0.up)
-          ∙ sym (append-nil (begun_turns by node inc its.0.begun.before its.0.begun.front its.0.up (its.0.pages ++ it ∷ [])));
+          ap (λ (ts : List Turn). ts ++ AtDoor (length old.history) (page_act node inc after (answers.Page page)) ∷ []) (its.begun.turns ∙ append-nil (begun_turns by node inc its.begun.before its.begun.front its.up its.pages))
+          ∙ sym (turns_more its.pages it by node inc its.begun.before its.begun.front its.up)
+          ∙ sym (append-nil (begun_turns by node inc its.begun.before its.begun.front its.up (its.pages ++ it ∷ [])));
     }
 
     page_leads : (stage : Stage) → ReadsTo page inc listed commits stage → StepsAtDoor by scans (made_at by node stage) old.history new.history
@@ -219,14 +217,14 @@ module _ (by : By) (node inc : ℕ) (after : List ℕ) (listed : ℕ) (commits :
           page_act node inc after (answers.Page page),
           grown,
           λ trail its. record {
-            up = its.0.up;
-            pages = its.0.pages ++ it ∷ [];
+            up = its.up;
+            pages = its.pages ++ it ∷ [];
             begun = begun_more trail its;
-            come = its.0.come;
-            read = read_more its.0.pages it listed commits all its.0.count its.0.read reads;
-            goes = goes_behind its.0.pages it its.0.goes ∙ goes after;
-            count = counts ∙ ap (λ (n : ℕ). n + length page) its.0.count ∙ sym (count_more its.0.pages it);
-            shown = shown_more its.0.pages it listed commits all its.0.shown reads;
+            come = its.come;
+            read = read_more its.pages it listed commits all its.count its.read reads;
+            goes = goes_behind its.pages it its.goes ∙ goes after;
+            count = counts ∙ ap (λ (n : ℕ). n + length page) its.count ∙ sym (count_more its.pages it);
+            shown = shown_more its.pages it listed commits all its.shown reads;
           },
         ))
     page_leads (Ends other (Shown all)) (same, reads, over) =
@@ -234,13 +232,13 @@ module _ (by : By) (node inc : ℕ) (after : List ℕ) (listed : ℕ) (commits :
           page_act node inc after (answers.Page page),
           grown,
           λ trail its. record {
-            up = its.0.up;
-            pages = its.0.pages ++ it ∷ [];
+            up = its.up;
+            pages = its.pages ++ it ∷ [];
             begun = begun_more trail its;
-            come = its.0.come;
-            read = read_more its.0.pages it listed commits all its.0.count its.0.read reads;
-            whole = whole_behind its.0.pages it its.0.goes (over after);
-            shown = shown_more its.0.pages it listed commits all its.0.shown reads;
+            come = its.come;
+            read = read_more its.pages it listed commits all its.count its.read reads;
+            whole = whole_behind its.pages it its.goes (over after);
+            shown = shown_more its.pages it listed commits all its.shown reads;
           },
         ))
     page_leads (Ends other (Refused reply)) (same, stops) =
@@ -257,7 +255,7 @@ module _ (by : By) (node inc : ℕ) (after : List ℕ) (listed : ℕ) (commits :
   memory_stops answers.Done = tt
   memory_stops answers.Failed = tt
 
-  module _ (may : may_call_at node (Scans inc after listed commits) old.history) where
+  module _ (may : may_call_at by node (Scans inc after listed commits) old.history) where
     fenced_so : is_up (incarnation node inc) old.history ≡ false → IsTrue (is_fenced (incarnation node inc) old.history)
     fenced_so down = elim (or_cases (is_fenced (incarnation node inc) old.history) (is_up (incarnation node inc) old.history) may) [ inl fenced ↦ fenced | inr up ↦ absurd (true≢false (sym up ∙ down)) ]
 

@@ -33,7 +33,6 @@ use Rattle.aft_boot.specs.Crashed.{turn_at}
 use Rattle.aft_boot.specs.Pages.{StopsCall}
 use Rattle.aft_boot.specs.declared.stage.Stage.{Stage}
 use Rattle.aft_boot.specs.declared.stage.Stage.TheVariants.{Begins, ComesUp, Ended, Ends, Scans}
-use Rattle.aft_turns.specs.Stands.{SeesOwn}
 use Rattle.aft_turns.specs.Trail.{Trail, no_trail}
 
 -- ---- what a step asks
@@ -54,15 +53,16 @@ may_end_at stage history = Unit {0}
 abbrev pub MayEnd : BootView → List NodeEntry → Type 0
 MayEnd boot history = may_end_at boot.stage history
 
--- at the door: the incarnation that is to come up was fenced, or no other of its node is up and no newer one was fenced; and one that has come up is up or was fenced. This too is so in each run so far
-abbrev pub may_call_at : ℕ → Stage → List DoorEntry → Type 0
-may_call_at node (ComesUp inc) history =
+-- at the door: the incarnation that is to come up was fenced, or no other of its node is up and no newer one was fenced; and where it is up already, the line has done nothing there yet. One that has come up is up or was fenced. This too is so in each run so far
+abbrev pub may_call_at : By → ℕ → Stage → List DoorEntry → Type 0
+may_call_at by node (ComesUp inc) history =
     IsTrue (is_fenced (incarnation node inc) history || (not (is_past node inc history) && list_all (λ other. not (other.node == node) || same_incarnation (incarnation node inc) other) (ups history)))
-may_call_at node (Scans inc after listed commits) history = IsTrue (is_fenced (incarnation node inc) history || is_up (incarnation node inc) history)
-may_call_at node stage history = Unit {0}
+    × (IsTrue (is_up (incarnation node inc) history) → own_entries by history ≡ [])
+may_call_at by node (Scans inc after listed commits) history = IsTrue (is_fenced (incarnation node inc) history || is_up (incarnation node inc) history)
+may_call_at by node stage history = Unit {0}
 
 abbrev pub MayCall : BootView → List DoorEntry → Type 0
-MayCall boot history = may_call_at boot.node boot.stage history
+MayCall boot history = may_call_at boot.by boot.node boot.stage history
 
 -- a history of the door begins with what a line looked at
 abbrev pub BeginsWith : List DoorEntry → List DoorEntry → Type 0
@@ -209,10 +209,6 @@ made_at by node Ended trail = EndedAtOnce by node trail ⊎ EndedLater by node t
 -- a start has made these turns
 abbrev pub Made : BootView → Trail → Type 0
 Made boot trail = made_at boot.by boot.node boot.stage trail
-
--- the same at the door, whose history has of the line just what its turns did there
-abbrev pub stood_at : By → ℕ → Stage → List DoorEntry → Trail → Type 0
-stood_at by node stage seen trail = made_at by node stage trail × SeesOwn by trail.turns seen
 
 -- whether its boot is to be stopped since the store failed
 abbrev pub told_fault_at : Stage → Bool

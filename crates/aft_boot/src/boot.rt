@@ -107,7 +107,7 @@ impl Boot {
         ensures by { self.new.by ≡ self.old.by }
         ensures node { self.new.node ≡ self.old.node }
         ensures left { left_of self.new < left_of self.old }
-        ensures steps { MayCall self.old door.old.history → StepsAtDoor self.old.by (λ trail. Made self.old trail × SeesOwn self.old.by trail.turns door.old.history) (Made self.new) door.old.history door.new.history }
+        ensures steps { MayCall self.old door.old.history → StepsAtDoor self.old.by (Made self.old) (Made self.new) door.old.history door.new.history }
         ensures cause { HasCause (IsTrue (told_fault self.new)) door.old.faults door.new.faults }
         ensures store { SameStore door.old door.new }
     {

@@ -1,7 +1,7 @@
 //! A start's turns at the door: its incarnation comes up, and reads the records.
 
 ghost use Rattle.std.specs.Prelude.{◌≡◌, ◌≢◌, ◌<◌, IfSome, IsTrue};
-ghost use Rattle.aft_boot.specs.Booted.{made_at, may_call_at, stood_at, told_fault_at};
+ghost use Rattle.aft_boot.specs.Booted.{made_at, may_call_at, told_fault_at};
 ghost use Rattle.aft_boot.specs.BootView.{Fits, is_other, left_at, next_at, refusal_of, up_stage};
 ghost use Rattle.aft_boot.specs.declared.stage.Stage.TheVariants as stages;
 ghost use Rattle.aft_keeper.specs.Cause.{HasCause};
@@ -34,7 +34,7 @@ pub(crate) fn step<K: Keeper>(
     requires fits { Fits stage }
     ensures left { left_at result < left_at stage }
     ensures fits { Fits result }
-    ensures steps { may_call_at node stage door.old.history → StepsAtDoor by (stood_at by node stage door.old.history) (made_at by node result) door.old.history door.new.history }
+    ensures steps { may_call_at by node stage door.old.history → StepsAtDoor by (made_at by node stage) (made_at by node result) door.old.history door.new.history }
     ensures cause { HasCause (IsTrue (told_fault_at result)) door.old.faults door.new.faults }
     ensures store { SameStore door.old door.new }
 {
@@ -56,7 +56,7 @@ fn come_up<K: Keeper>(alloc: Global, door: &mut Door<K>, by: By, node: u32, inc:
     requires node { node ≢ 0 }
     ensures left { left_at result < 315 }
     ensures fits { Fits result }
-    ensures steps { may_call_at node (stages.ComesUp inc) door.old.history → StepsAtDoor by (stood_at by node (stages.ComesUp inc) door.old.history) (made_at by node result) door.old.history door.new.history }
+    ensures steps { may_call_at by node (stages.ComesUp inc) door.old.history → StepsAtDoor by (made_at by node (stages.ComesUp inc)) (made_at by node result) door.old.history door.new.history }
     ensures faults { door.new.faults ≡ door.old.faults }
     ensures works { IsTrue (told_fault_at result) → ⊥ }
     ensures store { SameStore door.old door.new }
@@ -84,7 +84,7 @@ fn up<K: Keeper>(alloc: Global, door: &mut Door<K>, by: By, node: u32, inc: u32)
     requires alone { IfSome (up_now node door.old.history) (λ other. other ≡ inc) }
     ensures left { left_at result < 315 }
     ensures fits { Fits result }
-    ensures steps { may_call_at node (stages.ComesUp inc) door.old.history → StepsAtDoor by (stood_at by node (stages.ComesUp inc) door.old.history) (made_at by node result) door.old.history door.new.history }
+    ensures steps { may_call_at by node (stages.ComesUp inc) door.old.history → StepsAtDoor by (made_at by node (stages.ComesUp inc)) (made_at by node result) door.old.history door.new.history }
     ensures faults { door.new.faults ≡ door.old.faults }
     ensures works { IsTrue (told_fault_at result) → ⊥ }
     ensures store { SameStore door.old door.new }

@@ -1,7 +1,7 @@
 //! The pages of a start's scan of the records.
 
 ghost use Rattle.std.specs.Prelude.{◌≡◌, ◌<◌, ◌≤◌, ℕ, IfErr, IfOk, IsTrue, List};
-ghost use Rattle.aft_boot.specs.Booted.{made_at, may_call_at, stood_at, told_fault_at};
+ghost use Rattle.aft_boot.specs.Booted.{made_at, may_call_at, told_fault_at};
 ghost use Rattle.aft_boot.specs.BootView.{Fits, HasListed, behind_page, left_at};
 ghost use Rattle.aft_boot.specs.Pages.{LeadsTo, Reads, ReadsTo, StopsPage, are_records};
 ghost use Rattle.aft_boot.specs.declared.stage.Stage.TheVariants as stages;
@@ -39,7 +39,7 @@ pub(crate) fn scan<K: Keeper>(
     requires fits { HasListed after listed commits }
     ensures left { left_at result < left_at (stages.Scans inc after listed commits) }
     ensures fits { Fits result }
-    ensures steps { may_call_at node (stages.Scans inc after listed commits) door.old.history → StepsAtDoor by (stood_at by node (stages.Scans inc after listed commits) door.old.history) (made_at by node result) door.old.history door.new.history }
+    ensures steps { may_call_at by node (stages.Scans inc after listed commits) door.old.history → StepsAtDoor by (made_at by node (stages.Scans inc after listed commits)) (made_at by node result) door.old.history door.new.history }
     ensures cause { HasCause (IsTrue (told_fault_at result)) door.old.faults door.new.faults }
     ensures store { SameStore door.old door.new }
 {

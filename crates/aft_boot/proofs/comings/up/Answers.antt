@@ -1,6 +1,6 @@
 use Rattle.std.proofs.Common.{refl, subst, sym, ◌<◌}
 use Rattle.std.specs.Prelude.{IsTrue}
-use Rattle.aft_boot.specs.Booted.{made_at, stood_at, told_fault_at}
+use Rattle.aft_boot.specs.Booted.{made_at, told_fault_at}
 use Rattle.aft_boot.specs.BootView.{Fits, left_at}
 use Rattle.aft_boot.specs.declared.stage.Stage.{Stage}
 use Rattle.aft_boot.specs.declared.stage.Stage.TheVariants.{ComesUp}
@@ -29,5 +29,5 @@ returns-clause-store g c = (turns.same_store c.args.door.now c.up-told.new.self 
 
 pub returns-clause-steps : goal.returns-clause-steps
 returns-clause-steps g c may =
-    subst (λ (s : Stage). StepsAtDoor c.args.by (stood_at c.args.by c.args.node (ComesUp c.args.inc) c.args.door.now.history) (made_at c.args.by c.args.node s) c.args.door.now.history c.up-told.new.self.history) (sym c.behind.ensures)
+    subst (λ (s : Stage). StepsAtDoor c.args.by (made_at c.args.by c.args.node (ComesUp c.args.inc)) (made_at c.args.by c.args.node s) c.args.door.now.history c.up-told.new.self.history) (sym c.behind.ensures)
     (ups_so c.args.by c.args.node c.args.inc c.args.door.now.history c.requires.node c.args.door.now c.up-told.new.self refl may c.up-told.result c.requires.alone c.up-told.ensures.refused c.up-told.ensures.again c.up-told.ensures.ok c.up-told.ensures.err)
