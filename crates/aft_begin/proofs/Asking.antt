@@ -2,7 +2,9 @@
 use Rattle.std.proofs.Common.{◌≡◌, ℕ, Bool, true, false, ◌||◌, ◌⊎◌, List, [], ◌∷◌, ◌++◌, refl, ap, subst, ◌∙◌, inl, inr}
 use Rattle.std.specs.Prelude.{Err, IsTrue, None, Ok, Option, Some, if◌then◌else◌}
 use Rattle.std.proofs.lemmas.Bool.{and_parts, false≢true, or_cases}
+use Rattle.std.specs.Str.{bytes_eq}
 use Rattle.aft_id.specs.TxnId.{IsUuid}
+use Rattle.aft_id.specs.declared.txn_id.TxnId.{TxnId}
 use Rattle.aft_keeper.specs.declared.keeper.KeeperAnswer.{KeeperAnswer}
 use Rattle.aft_keeper.specs.declared.keeper.KeeperAnswer.TheVariants as answers
 use Rattle.aft_keeper.specs.declared.keeper.KeeperCall.TheVariants.{Get}
@@ -22,9 +24,11 @@ use Rattle.aft_door.specs.Entries.{called}
 use Rattle.aft_door.specs.Refusals.{RefusedOrFailed, if_fenced}
 use Rattle.aft_lines.specs.CourseWords.{caller_of}
 use Rattle.aft_turns.specs.Refusals.{refusal_of}
+use Rattle.aft_begin.specs.declared.looked.Looked.{Looked}
+use Rattle.aft_begin.specs.declared.looked.Looked.TheVariants.{Nothing, Shows as Shown, Stops}
 use Rattle.aft_begin.specs.declared.sought.Sought.{Sought}
 use Rattle.aft_begin.specs.Calls.{LooksSo, with_act}
-use Rattle.aft_begin.specs.Seen.{name_of, told}
+use Rattle.aft_begin.specs.Seen.{ShownBy, is_short, name_of, read_id, told, told_of}
 use Rattle.aft_begin.specs.Way.{IsRefused, look_act}
 
 module _ (by : By) (a : Attempt) (uuid : List ℕ) (sought : Sought) (name : List ℕ) (named : name ≡ name_of sought uuid) (old new : DoorView) where
@@ -43,12 +47,32 @@ module _ (by : By) (a : Attempt) (uuid : List ℕ) (sought : Sought) (name : Lis
       last_of [] entry bytes = (and_parts (acts_bytes entry.act) true bytes).0
       last_of (e ∷ history) entry bytes = last_of history entry (and_parts (acts_bytes e.act) _ bytes).1
 
-  pub absent : Shows told_found old who (Get name) (Ok None) new → LooksSo by a uuid sought old.history new.history None
+  pub absent : Shows told_found old who (Get name) (Ok None) new → LooksSo by a uuid sought old.history new.history Nothing
   absent shows = grown answers.Absent shows
 
-  pub shown : (bytes : List ℕ) (reply : Reply) → IsUuid uuid → HasBytes new.history → Shows told_found old who (Get name) (Ok (Some bytes)) new → (reply ≡ told sought uuid bytes) ⊎ (reply ≡ replies.NoMemory) → LooksSo by a uuid sought old.history new.history (Some reply)
-  shown bytes reply is made shows (inl tells) = inr (answers.Found bytes, grown (answers.Found bytes) shows, inl ((is, found_bytes bytes made shows), tells))
-  shown bytes reply is made shows (inr lacks) = inr (answers.Found bytes, grown (answers.Found bytes) shows, inr lacks)
+  pub shown : (bytes : List ℕ) (looked : Looked) → IsUuid uuid → HasBytes new.history → Shows told_found old who (Get name) (Ok (Some bytes)) new → (looked ≡ told sought uuid bytes) ⊎ (looked ≡ Stops replies.NoMemory) → LooksSo by a uuid sought old.history new.history looked
+  shown bytes looked is made shows tells = by_looked looked tells
+    where
+      by_tells : (l : Looked) → (l ≡ told sought uuid bytes) ⊎ (l ≡ Stops replies.NoMemory) → ShownBy sought uuid (answers.Found bytes) l
+      by_tells l (inl tells) = inl ((is, found_bytes bytes made shows), tells)
+      by_tells l (inr lacks) = inr lacks
+
+      by_looked : (l : Looked) → (l ≡ told sought uuid bytes) ⊎ (l ≡ Stops replies.NoMemory) → LooksSo by a uuid sought old.history new.history l
+      by_looked (Shown id short) tells = (answers.Found bytes, grown (answers.Found bytes) shows, by_tells (Shown id short) tells)
+      by_looked (Stops reply) tells = inr (answers.Found bytes, grown (answers.Found bytes) shows, by_tells (Stops reply) tells)
+      by_looked Nothing tells = absurd (never tells)
+        where
+          by_read : (read : Option TxnId) → Nothing ≡ told_of (name_of sought uuid) uuid (is_short sought bytes) read → ⊥
+          by_read None e = cc
+          by_read (Some id) e = by_test (bytes_eq uuid id.uuid) e
+            where
+              by_test : (same : Bool) → Nothing ≡ (if same then Shown id (is_short sought bytes) else Stops (replies.Damaged (name_of sought uuid))) → ⊥
+              by_test true e = cc
+              by_test false e = cc
+
+          never : (Nothing ≡ told sought uuid bytes) ⊎ (Nothing ≡ Stops replies.NoMemory) → ⊥
+          never (inl e) = by_read (read_id sought bytes) e
+          never (inr e) = cc
 
   -- a look is refused by a fence alone, and else fails or lacks memory
   abbrev Why : DoorFault → Type 0
@@ -64,10 +88,10 @@ module _ (by : By) (a : Attempt) (uuid : List ℕ) (sought : Sought) (name : Lis
       by_cases true is = if_up (by_up fault why true is)
       by_cases false is = if_down (by_up fault why false is)
 
-  unasked : (reply : Reply) → new.history ≡ old.history → IsRefused a old.history reply → LooksSo by a uuid sought old.history new.history (Some reply)
+  unasked : (reply : Reply) → new.history ≡ old.history → IsRefused a old.history reply → LooksSo by a uuid sought old.history new.history (Stops reply)
   unasked reply same refused = inl (same, refused)
 
-  pub refused : (fault : DoorFault) → IsTrue (is_fenced (caller_of a) old.history || is_up (caller_of a) old.history) → Why fault → Shows told_found old who (Get name) (Err fault) new → LooksSo by a uuid sought old.history new.history (Some (refusal_of a fault))
+  pub refused : (fault : DoorFault) → IsTrue (is_fenced (caller_of a) old.history || is_up (caller_of a) old.history) → Why fault → Shows told_found old who (Get name) (Err fault) new → LooksSo by a uuid sought old.history new.history (Stops (refusal_of a fault))
   refused faults.Failed may why shows = inr (answers.Failed, grown answers.Failed shows, refl)
   refused faults.Memory may why (None, untold, asks) = unasked replies.NoMemory asks.history (inr refl)
   refused faults.Memory may why (Some (answers.Found bytes), untold, asks) = inr (answers.Found bytes, grown (answers.Found bytes) asks, inr refl)

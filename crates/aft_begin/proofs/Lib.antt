@@ -1,3 +1,4 @@
+pub mod Aims
 pub mod Asking
 pub mod Caused
 pub mod Counted

@@ -1,15 +1,15 @@
--- What stands of a begin whose first turn answered.
-use Rattle.std.proofs.Common.{◌≡◌, ℕ, Bool, true, false, ◌&&◌, not, List, [], ◌∷◌, ◌++◌, refl, sym, ap, subst, ◌∙◌, inl, inr}
-use Rattle.std.specs.Prelude.{IsFalse, IsTrue, None, Option, Some, filter, if◌then◌else◌, ◌==◌}
-use Rattle.std.proofs.lemmas.Bool.{and_from, eq-eqb, false≢true, or_left, true≢false}
+-- What stands of a begin or a forget whose first turn answered.
+use Rattle.std.proofs.Common.{◌≡◌, ℕ, suc, Bool, true, false, ◌&&◌, not, List, [], ◌∷◌, ◌++◌, refl, sym, ap, subst, ◌∙◌, inl, inr}
+use Rattle.std.specs.Prelude.{IsFalse, IsTrue, None, Option, Some, filter, if◌then◌else◌, length, ◌==◌, ◌⊎◌}
+use Rattle.std.proofs.lemmas.Bool.{and_from, eq-eqb, eqb-true, false_from_ne_true, false≢true, or_left, true≢false}
 use Rattle.aft_model.specs.declared.caller.Attempt.{Attempt}
 use Rattle.aft_model.specs.declared.caller.By.{By}
 use Rattle.aft_model.specs.declared.caller.Hold.{Hold}
+use Rattle.aft_model.specs.declared.node.NodeAct.{NodeAct}
 use Rattle.aft_model.specs.declared.node.NodeAct.TheVariants as acts
 use Rattle.aft_model.specs.declared.node.NodeEntry.{NodeEntry}
 use Rattle.aft_model.specs.declared.reply.Reply.{Reply}
 use Rattle.aft_model.specs.declared.reply.Reply.TheVariants as replies
-use Rattle.aft_model.specs.declared.script.Command.TheVariants as commands
 use Rattle.aft_model.specs.Attempts.{Row, attempt_state, attempts, is_gone, is_of, is_opening, present, present_of, row_of, uuid_of}
 use Rattle.aft_model.specs.History.{first_of}
 use Rattle.aft_model.specs.LegalNode.{LegalNode}
@@ -20,16 +20,23 @@ use Rattle.aft_model.proofs.Services.{newest-snoc}
 use Rattle.aft_model.proofs.Sights.{bytes_eq-refl}
 use Rattle.aft_lines.specs.Causes.{Caused}
 use Rattle.aft_lines.specs.CausesAttempts.{state_in}
-use Rattle.aft_lines.specs.CausesBegins.{has_opened, has_opening}
+use Rattle.aft_lines.specs.CausesBegins.{has_attempt, has_opened, has_opening}
+use Rattle.aft_lines.specs.LegalTrace.{node_words}
 use Rattle.aft_lines.specs.LineView.{LineView}
+use Rattle.aft_lines.specs.Advance.{is_led_to_end}
 use Rattle.aft_lines.specs.Lines.{attempt_of}
+use Rattle.aft_lines.specs.Makes.{makes_at_node}
+use Rattle.aft_lines.specs.RunsSoFar.{position_of}
 use Rattle.law_attempts.proofs.Lives.{lives}
 use Rattle.law_attempts.proofs.Standing.{Standing}
 use Rattle.law_attempts.proofs.Tables.{row_of_uuid}
-use Rattle.aft_node.specs.Beginning.{admit_refusal, begin_refusal_by, found_row, joined_go, refused_go, serving_inc}
+use Rattle.aft_node.specs.Beginning.{admit_refusal, begin_refusal_by, forget_refusal_by, found_row, joined_go, refused_go, serving_inc}
 use Rattle.aft_node.specs.declared.goes.AdmitGo.TheVariants as goes
-use Rattle.aft_turns.specs.Stands.{EndsRightly, GoesRightly}
+use Rattle.aft_turns.specs.Stands.{EndsRightly, GoesRightly, is_right}
 use Rattle.aft_turns.proofs.Views.{with_words}
+use Rattle.aft_begin.specs.declared.aim.Aim.{Aim}
+use Rattle.aft_begin.specs.declared.aim.Aim.TheVariants as aims
+use Rattle.aft_begin.specs.View.{asks}
 use Rattle.aft_begin.specs.Made.{AnswersAtOnce, given_by, node_of, turn_at}
 
 -- the first that passes a test is the one that does
@@ -153,47 +160,106 @@ module _ (node capacity : ℕ) (uuid : List ℕ) (before : List NodeEntry) (lega
           by_state false opens is gives =
               same_end (replies.Joined uuid) (Some (record { node = node; inc = s.inc; number = row.number })) given is (gives ∙ ap (λ (i : ℕ). Some (record { node = node; inc = i; number = row.number })) (ap serving_inc in_it)) (joined s row in_it (there node capacity uuid before legal s in_it row at) opens)
 
-  by_answer : (given : Option Attempt) → AnswersAtOnce node uuid before reply given → Holds reply given
+  by_answer : (given : Option Attempt) → AnswersAtOnce aims.Begin node uuid before reply given → Holds reply given
   by_answer given (inl (is, none)) = subst (λ (r : Reply). Holds r given) (sym is) (subst (Holds replies.NoMemory) (sym none) memory)
   by_answer given (inr (is, gives)) = refused given (service before) refl is gives
 
+-- the same of a forget, which joins none
+module _ (node capacity : ℕ) (uuid : List ℕ) (before : List NodeEntry) (legal : LegalNode node capacity before) (Holds : Reply → Type 0)
+    (memory : Holds replies.NoMemory)
+    (down : service before ≡ None → Holds (replies.NodeDown node (newest before)))
+    (busy : (s : Service) (row : Row) → service before ≡ Some s → IsThere uuid s row (record { node = node; inc = s.inc; number = row.number }) → Holds (replies.Busy node s.inc))
+    (reply : Reply) where
+  forget_refused : (found : Option Service) → service before ≡ found → admit_refusal forget_refusal_by uuid (node_of node before) found ≡ Some reply → Holds reply
+  forget_refused None in_it is = subst Holds (one_reply (replies.NodeDown node (newest before)) reply is) (down in_it)
+  forget_refused (Some s) in_it is = by_row (found_row uuid (node_of node before)) refl is
+    where
+      by_row : (found : Option Row) → found_row uuid (node_of node before) ≡ found → forget_refusal_by node s.inc uuid found ≡ Some reply → Holds reply
+      by_row None at is = absurd (none_is is)
+        where
+          none_is : None ≡ Some reply → ⊥
+          none_is e = cc
+      by_row (Some row) at is = subst Holds (one_reply (replies.Busy node s.inc) reply is) (busy s row in_it (there node capacity uuid before legal s in_it row at))
+
+  by_forget : (reply ≡ replies.NoMemory) ⊎ (admit_refusal forget_refusal_by uuid (node_of node before) (service before) ≡ Some reply) → Holds reply
+  by_forget (inl is) = subst Holds (sym is) memory
+  by_forget (inr is) = forget_refused (service before) refl is
+
 -- what it gives
-pub given_once : (by : By) (node : ℕ) (uuid : List ℕ) (capacity : ℕ) (before : List NodeEntry) (front : ℕ) → LegalNode node capacity before → (reply : Reply) (given : Option Attempt) → AnswersAtOnce node uuid before reply given → attempt_of (turn_at by node before front acts.Nothing (Some reply) ∷ []) ≡ given
-given_once by node uuid capacity before front legal reply given at_once =
+given_begin : (by : By) (node : ℕ) (uuid : List ℕ) (capacity : ℕ) (before : List NodeEntry) (front : ℕ) → LegalNode node capacity before → (reply : Reply) (given : Option Attempt) → AnswersAtOnce aims.Begin node uuid before reply given → attempt_of (turn_at by node before front acts.Nothing (Some reply) ∷ []) ≡ given
+given_begin by node uuid capacity before front legal reply given at_once =
     by_answer node capacity uuid before legal (λ told its. attempt_of (turn_at by node before front acts.Nothing (Some told) ∷ []) ≡ its) refl (λ none. refl) (λ s row in_it is opens. refl)
     (λ s row in_it is opens. ap (λ (those : List NodeEntry). first_of (present_of uuid those)) (ap part_in in_it) ∙ is.only) reply given at_once
+
+-- a forget gives none, and no answer of a first turn that gives one is a forget's
+pub given_once : (aim : Aim) (by : By) (node : ℕ) (uuid : List ℕ) (capacity : ℕ) (before : List NodeEntry) (front : ℕ) → LegalNode node capacity before → (reply : Reply) (given : Option Attempt) → AnswersAtOnce aim node uuid before reply given → attempt_of (turn_at by node before front acts.Nothing (Some reply) ∷ []) ≡ given
+given_once aims.Begin by node uuid capacity before front legal reply given at_once = given_begin by node uuid capacity before front legal reply given at_once
+given_once aims.Forget by node uuid capacity before front legal reply given at_once = by_forget node capacity uuid before legal (λ told. attempt_of (turn_at by node before front acts.Nothing (Some told) ∷ []) ≡ None) refl (λ none. refl) (λ s row in_it is. refl) reply at_once.0 ∙ sym at_once.1
+
+-- ---- its turn
+
+-- a turn at the node that such a line names, of its words
+pub right_at : (aim : Aim) (by : By) (node : ℕ) (uuid : List ℕ) (hold : Hold) (before : List NodeEntry) (front : ℕ) (act : NodeAct) (answer : Option Reply) → IsTrue (makes_at_node (asks aim uuid node) act) → IsTrue (node_words (asks aim uuid node) act)
+    → IsTrue (is_right (asks aim uuid node) hold (turn_at by node before front act answer))
+right_at aims.Begin by node uuid hold before front act answer made carries = and_from _ _ (and_from _ _ (and_from _ _ made carries) (eq-eqb node node refl)) refl
+right_at aims.Forget by node uuid hold before front act answer made carries = and_from _ _ (and_from _ _ (and_from _ _ made carries) (eq-eqb node node refl)) refl
 
 -- ---- its cause
 
 module _ (by : By) (node : ℕ) (uuid : List ℕ) (hold : Hold) (view : LineView) (capacity : ℕ) (before : List NodeEntry) (front : ℕ) (legal : LegalNode node capacity before) where
   -- the line whose one turn answered so
-  abbrev ran : Reply → LineView
-  ran told = with_words (commands.Begin uuid node) hold (turn_at by node before front acts.Nothing (Some told) ∷ []) view
+  abbrev ran : Aim → Reply → LineView
+  ran aim told = with_words (asks aim uuid node) hold (turn_at by node before front acts.Nothing (Some told) ∷ []) view
 
-  down : service before ≡ None → Caused (ran (replies.NodeDown node (newest before))) (replies.NodeDown node (newest before))
-  down none =
+  down : (aim : Aim) → service before ≡ None → Caused (ran aim (replies.NodeDown node (newest before))) (replies.NodeDown node (newest before))
+  down aims.Begin none =
+      and_from _ _ (and_from _ _ (eq-eqb node node refl) (eq-eqb (newest before) (newest (before ++ record { front = front; by = by; act = acts.Nothing; answer = Some (replies.NodeDown node (newest before)) } ∷ [])) (sym (newest-snoc before (record { front = front; by = by; act = acts.Nothing; answer = Some (replies.NodeDown node (newest before)) })))))
+      (or_left _ _ (or_left _ _ (ap not (no_service (newest before) (node_state before) none))))
+  down aims.Forget none =
       and_from _ _ (and_from _ _ (eq-eqb node node refl) (eq-eqb (newest before) (newest (before ++ record { front = front; by = by; act = acts.Nothing; answer = Some (replies.NodeDown node (newest before)) } ∷ [])) (sym (newest-snoc before (record { front = front; by = by; act = acts.Nothing; answer = Some (replies.NodeDown node (newest before)) })))))
       (or_left _ _ (or_left _ _ (ap not (no_service (newest before) (node_state before) none))))
 
-  busy : (s : Service) (row : Row) (a : Attempt) → service before ≡ Some s → IsThere uuid s row a → is_opening row.state ≡ true → Caused (ran (replies.Busy node s.inc)) (replies.Busy node s.inc)
+  busy : (s : Service) (row : Row) (a : Attempt) → service before ≡ Some s → IsThere uuid s row a → is_opening row.state ≡ true → Caused (ran aims.Begin (replies.Busy node s.inc)) (replies.Busy node s.inc)
   busy s row a in_it is opens =
       or_left _ _ (or_left _ _ (and_from _ _ (eq-eqb node node refl)
       (subst (λ (o : Option Service). IsTrue (in_service (λ t. (s.inc == t.inc) && has_opening uuid t) o)) (sym in_it)
       (and_from _ _ (eq-eqb s.inc s.inc refl) (any_from (λ (b : Attempt). is_opening (state_in b s)) a (present_of uuid s.part) is.among (ap is_opening (sym is.state) ∙ opens))))))
 
-  joined : (s : Service) (row : Row) (a : Attempt) → service before ≡ Some s → IsThere uuid s row a → is_opening row.state ≡ false → Caused (ran (replies.Joined uuid)) (replies.Joined uuid)
+  -- a forget is told so of any attempt
+  busy_forget : (s : Service) (row : Row) (a : Attempt) → service before ≡ Some s → IsThere uuid s row a → Caused (ran aims.Forget (replies.Busy node s.inc)) (replies.Busy node s.inc)
+  busy_forget s row a in_it is =
+      or_left _ _ (and_from _ _ (eq-eqb node node refl)
+      (subst (λ (o : Option Service). IsTrue (in_service (λ t. (s.inc == t.inc) && has_attempt uuid t) o)) (sym in_it)
+      (and_from _ _ (eq-eqb s.inc s.inc refl) (some_there (present_of uuid s.part) is.among))))
+    where
+      not_zero : (n : ℕ) → suc n ≡ 0 → ⊥
+      not_zero n e = cc
+
+      some_there : (xs : List Attempt) → In a xs → IsTrue (not (length xs == 0))
+      some_there [] among = absurd among
+      some_there (x ∷ xs) among = ap not (false_from_ne_true (suc (length xs) == 0) (λ e. not_zero (length xs) (eqb-true (suc (length xs)) 0 e)))
+
+  joined : (s : Service) (row : Row) (a : Attempt) → service before ≡ Some s → IsThere uuid s row a → is_opening row.state ≡ false → Caused (ran aims.Begin (replies.Joined uuid)) (replies.Joined uuid)
   joined s row a in_it is opens =
       and_from _ _ (bytes_eq-refl uuid)
       (subst (λ (o : Option Service). IsTrue (in_service (has_opened uuid) o)) (sym in_it)
       (any_from (λ (b : Attempt). not (is_opening (state_in b s))) a (present_of uuid s.part) is.among (ap not (ap is_opening (sym is.state) ∙ opens))))
 
-  pub goes_once : (reply : Reply) → GoesRightly (ran reply)
-  goes_once reply = record { leads = refl; makes = refl; speaks = refl }
+  pub goes_once : (aim : Aim) (reply : Reply) → GoesRightly (ran aim reply)
+  goes_once aims.Begin reply = record { leads = refl; right = and_from _ _ (right_at aims.Begin by node uuid hold before front acts.Nothing (Some reply) refl refl) refl }
+  goes_once aims.Forget reply = record { leads = refl; right = and_from _ _ (right_at aims.Forget by node uuid hold before front acts.Nothing (Some reply) refl refl) refl }
 
-  pub ends_once : (reply : Reply) (given : Option Attempt) → AnswersAtOnce node uuid before reply given → EndsRightly (ran reply)
-  ends_once reply given at_once = record {
-    leads = refl;
+  caused_once : (aim : Aim) (reply : Reply) (given : Option Attempt) → AnswersAtOnce aim node uuid before reply given → Caused (ran aim reply) reply
+  caused_once aims.Begin reply given at_once = by_answer node capacity uuid before legal (λ r its. Caused (ran aims.Begin r) r) refl (down aims.Begin) (λ s row in_it is_there opens. busy s row (record { node = node; inc = s.inc; number = row.number }) in_it is_there opens) (λ s row in_it is_there opens. joined s row (record { node = node; inc = s.inc; number = row.number }) in_it is_there opens) reply given at_once
+  caused_once aims.Forget reply given at_once = by_forget node capacity uuid before legal (λ r. Caused (ran aims.Forget r) r) refl (down aims.Forget) (λ s row in_it is_there. busy_forget s row (record { node = node; inc = s.inc; number = row.number }) in_it is_there) reply at_once.0
+
+  leads_once : (aim : Aim) (reply : Reply) → IsTrue (is_led_to_end (position_of (ran aim reply)))
+  leads_once aims.Begin reply = refl
+  leads_once aims.Forget reply = refl
+
+  pub ends_once : (aim : Aim) (reply : Reply) (given : Option Attempt) → AnswersAtOnce aim node uuid before reply given → EndsRightly (ran aim reply)
+  ends_once aim reply given at_once = record {
+    leads = leads_once aim reply;
     answers = refl;
-    caused = λ told is. subst (Caused (ran reply)) (one_reply reply told is)
-        (by_answer node capacity uuid before legal (λ r its. Caused (ran r) r) refl down (λ s row in_it is_there opens. busy s row (record { node = node; inc = s.inc; number = row.number }) in_it is_there opens) (λ s row in_it is_there opens. joined s row (record { node = node; inc = s.inc; number = row.number }) in_it is_there opens) reply given at_once);
+    caused = λ told is. subst (Caused (ran aim reply)) (one_reply reply told is) (caused_once aim reply given at_once);
   }

@@ -15,10 +15,8 @@ ghost use Rattle.aft_turns.specs.Steps.{FrontsWithin, SameStore, StepsAtDoor, St
 ghost use Rattle.aft_turns.specs.Trail.{Trail, no_trail};
 ghost use Rattle.aft_turns.specs.declared.turn.Where.TheVariants as places;
 
-use crate::doors::{claims, lets_go, seeks};
-use crate::nodes::{admit, give_up, run};
-use crate::sought::Sought;
-use crate::stage::Stage;
+use crate::aim::Aim;
+use crate::claiming::Claiming;
 use aft_door::Door;
 use aft_keeper::Keeper;
 use aft_model::{By, Hold};
@@ -26,28 +24,25 @@ use aft_node::Node;
 use aft_turns::Where;
 use std::alloc::Global;
 use std::marker::Model;
-use std::mem::replace;
 use uuid::Uuid;
 
 /// A begin of a UUID at a node, as a machine: its turns are made one by one, at the node and at the door. Contracts see its line,
 /// the node, the UUID, and how far it has come.
 #[derive(Drop)]
 pub struct Begin {
-    alloc: Global,
-    pub(crate) by: By,
-    node: u32,
-    uuid: Uuid,
-    pub(crate) stage: Stage,
+    line: Claiming,
 }
 
 impl Model for Begin {
-    ghost use Rattle.aft_begin.specs.View.{BeginView, FitsAt};
+    ghost use Rattle.std.specs.Prelude.{◌≡◌};
+    ghost use Rattle.aft_begin.specs.View.{ClaimView};
+    ghost use Rattle.aft_begin.specs.declared.aim.Aim.TheVariants as aims;
 
-    ghost Value = { BeginView };
+    ghost Value = { ClaimView };
 
-    ghost view = { λ b. record { by = b.by; node = b.node; uuid = b.uuid; stage = b.stage } };
+    ghost view = { λ b. b.line };
 
-    ghost invariant = { λ b. FitsAt b.node b.stage };
+    ghost invariant = { λ b. b.line.aim ≡ aims.Begin };
 }
 
 impl Begin {
@@ -56,14 +51,11 @@ impl Begin {
         ensures by { result.by ≡ by }
         ensures node { result.node ≡ node }
         ensures uuid { result.uuid ≡ uuid }
+        ensures left { left_of result ≡ 6 }
         ensures made { Made result no_trail }
     {
         Begin {
-            alloc,
-            by,
-            node,
-            uuid,
-            stage: Stage::Begins,
+            line: Claiming::new(alloc, by, node, uuid, Aim::Begin),
         }
     }
 
@@ -71,45 +63,23 @@ impl Begin {
     pub fn next(&self) -> Where
         ensures { result ≡ next_of self.now }
     {
-        match &self.stage {
-            Stage::Begins | Stage::Runs { .. } | Stage::GivesUp { .. } => Where::Node(self.node),
-            Stage::Claims { .. } | Stage::Seeks { .. } | Stage::LetsGo { .. } => Where::Door,
-            Stage::Ended { .. } => Where::Done,
-        }
+        self.line.next()
     }
 
     /// How many turns are left at most: 6 at first.
     pub fn left(&self) -> u32
         ensures { result ≡ left_of self.now }
     {
-        match &self.stage {
-            Stage::Begins => 6,
-            Stage::Claims { .. } => 5,
-            Stage::Seeks {
-                sought: Sought::Record,
-                ..
-            } => 4,
-            Stage::Seeks {
-                sought: Sought::Marker,
-                ..
-            } => 3,
-            Stage::LetsGo { .. } => 2,
-            Stage::Runs { .. } | Stage::GivesUp { .. } => 1,
-            Stage::Ended { .. } => 0,
-        }
+        self.line.left()
     }
 
     /// What its client holds once it is over: its node, and the attempt that runs or was joined, if one was.
     pub fn hold(&self) -> Hold
         ensures { result ≡ hold_of self.now }
     {
-        let attempt = match &self.stage {
-            Stage::Ended { attempt } => *attempt,
-            _ => None,
-        };
         Hold {
-            node: self.node,
-            attempt,
+            node: self.line.node(),
+            attempt: self.line.given(),
         }
     }
 
@@ -124,14 +94,7 @@ impl Begin {
         ensures left { left_of self.new < left_of self.old }
         ensures steps { MayEnd self.old node.old.history → StepsAtNode self.old.by front (Made self.old) (Made self.new) node.old node.new }
     {
-        self.stage = match replace(&mut self.stage, Stage::Ended { attempt: None }) {
-            Stage::Begins => admit(self.by, self.uuid, node, front),
-            Stage::Runs { attempt } => run(self.by, self.uuid, node, front, attempt),
-            Stage::GivesUp { attempt, reply } => {
-                give_up(self.by, self.uuid, node, front, attempt, reply)
-            }
-            stage => stage,
-        };
+        self.line.at_node(node, front);
     }
 
     /// Its turn at the door.
@@ -146,16 +109,8 @@ impl Begin {
         ensures cause { HasCause (IsTrue (told_fault self.new)) door.old.faults door.new.faults }
         ensures store { SameStore door.old door.new }
     {
-        self.stage = match replace(&mut self.stage, Stage::Ended { attempt: None }) {
-            Stage::Claims { attempt } => claims(door, self.by, self.uuid, attempt),
-            Stage::Seeks { attempt, sought } => {
-                seeks(self.alloc, door, self.by, self.uuid, attempt, sought)
-            }
-            Stage::LetsGo { attempt, reply } => {
-                lets_go(door, self.by, self.uuid, attempt, reply)
-            }
-            stage => stage,
-        };
+        self.line.law_begin();
+        self.line.at_door(door);
     }
 
     /// What stands of its line, by the turns that it has made: they are a beginning of a begin's course, made rightly, and answer
@@ -167,5 +122,7 @@ impl Begin {
         ensures ends { (hold : Hold) (capacity : ℕ) (trail : Trail) (view : LineView) → Made self.now trail → RanSo (commands.Begin self.now.uuid self.now.node) hold capacity trail view → next_of self.now ≡ places.Done → HasLooked trail view → EndsRightly view }
         ensures gives { (trail : Trail) → Made self.now trail → next_of self.now ≡ places.Done → attempt_of trail.turns ≡ (hold_of self.now).attempt }
         ensures sees { (trail : Trail) (seen : List DoorEntry) → Made self.now trail → SeesOwn self.now.by trail.turns seen → IsTrue (last_sees seen trail.turns) }
-    {}
+    {
+        self.line.so_far();
+    }
 }

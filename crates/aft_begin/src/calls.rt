@@ -1,18 +1,20 @@
-//! What a begin does at the door, and what comes of it.
+//! What a line that claims a UUID does at the door, and what comes of it.
 
 ghost use Rattle.std.specs.Prelude.{◌≡◌, ◌⊎◌, ◌&&◌, ◌||◌, IfOk, IfSome, IsTrue, Some, false, not};
-ghost use Rattle.aft_begin.specs.Calls.{ClaimsSo, LooksSo, ReleasesSo, tells_fault};
-ghost use Rattle.aft_begin.specs.Seen.{name_of, read_id, told};
+ghost use Rattle.aft_begin.specs.Calls.{ClaimsSo, ForgetsSo, LooksSo, ReleasesSo, shows_fault, tells_fault};
+ghost use Rattle.aft_begin.specs.Seen.{MayShow, is_short, name_of, read_id, told, with_short};
+ghost use Rattle.aft_begin.specs.declared.looked.Looked.TheVariants.{Stops};
 ghost use Rattle.aft_keeper.specs.Cause.{HasCause};
 ghost use Rattle.aft_lines.specs.CourseWords.{caller_of};
 ghost use Rattle.aft_model.specs.Claims.{holds};
-ghost use Rattle.aft_model.specs.DoorKnowledge.{is_open};
+ghost use Rattle.aft_model.specs.DoorKnowledge.{is_open, knows_short_of};
 ghost use Rattle.aft_model.specs.Membership.{is_up};
 ghost use Rattle.aft_model.specs.NodeRules.{is_begin_refusal};
 ghost use Rattle.aft_model.specs.NodeSights.{is_fenced};
 ghost use Rattle.aft_records.specs.Names.{name_text};
 ghost use Rattle.aft_turns.specs.Steps.{SameStore};
 
+use crate::looked::Looked;
 use crate::sought::Sought;
 use aft_door::{Door, DoorFault};
 use aft_id::{Bytes, Memory, TxnId, uuid_bytes};
@@ -78,7 +80,7 @@ pub(crate) fn claim<K: Keeper>(
     }
 }
 
-/// Looks for the record or the marker of the UUID, and gives what is to be answered where something is there or the look failed.
+/// Looks for the record or the marker of the UUID.
 pub(crate) fn look<K: Keeper>(
     alloc: Global,
     door: &mut Door<K>,
@@ -86,11 +88,11 @@ pub(crate) fn look<K: Keeper>(
     attempt: Attempt,
     uuid: Uuid,
     sought: Sought,
-) -> Option<Reply>
+) -> Looked
     requires open { IsTrue (is_open door.old.history) }
     ensures looks { IsTrue (is_fenced (caller_of attempt) door.old.history || is_up (caller_of attempt) door.old.history) → LooksSo by attempt uuid sought door.old.history door.new.history result }
-    ensures may { IfSome result (λ reply. IsTrue (is_begin_refusal (Some reply))) }
-    ensures cause { HasCause (IsTrue (tells_fault result)) door.old.faults door.new.faults }
+    ensures may { MayShow uuid result }
+    ensures cause { HasCause (IsTrue (shows_fault result)) door.old.faults door.new.faults }
     ensures store { SameStore door.old door.new }
 {
     let name = name(sought, uuid);
@@ -98,9 +100,9 @@ pub(crate) fn look<K: Keeper>(
     Door::law_legal(door);
     uuid_bytes(&uuid);
     match told {
-        Ok(None) => None,
-        Ok(Some(bytes)) => Some(shown(alloc, uuid, sought, &bytes)),
-        Err(fault) => Some(refusal(fault, attempt)),
+        Ok(None) => Looked::Nothing,
+        Ok(Some(bytes)) => shown(alloc, uuid, sought, &bytes),
+        Err(fault) => Looked::Stops(refusal(fault, attempt)),
     }
 }
 
@@ -114,32 +116,32 @@ fn name(sought: Sought, uuid: Uuid) -> Name
     }
 }
 
-/// What is told of bytes that stand under the name of what is sought: the id of the UUID's commit, or damage.
-fn shown(alloc: Global, uuid: Uuid, sought: Sought, bytes: &Bytes) -> Reply
-    ensures shown { (result ≡ told sought uuid bytes.now) ⊎ (result ≡ Reply.NoMemory) }
-    ensures may { IsTrue (is_begin_refusal (Some result)) }
-    ensures no_fault { tells_fault (Some result) ≡ false }
+/// What bytes show that stand under the name of what is sought: the id of the UUID's commit, or damage.
+fn shown(alloc: Global, uuid: Uuid, sought: Sought, bytes: &Bytes) -> Looked
+    ensures shown { (result ≡ told sought uuid bytes.now) ⊎ (result ≡ Stops Reply.NoMemory) }
+    ensures may { MayShow uuid result }
+    ensures no_fault { shows_fault result ≡ false }
 {
     match id_in(alloc, sought, bytes) {
-        Ok(Some(id)) if id.uuid == uuid => Reply::Committed(id),
-        Ok(_) => damaged(alloc, uuid, sought),
-        Err(_) => Reply::NoMemory,
+        Ok(Some((id, short))) if id.uuid == uuid => Looked::Shows { id, short },
+        Ok(_) => Looked::Stops(damaged(alloc, uuid, sought)),
+        Err(_) => Looked::Stops(Reply::NoMemory),
     }
 }
 
-/// The id that bytes are read as, if they are a record or a marker.
-fn id_in(alloc: Global, sought: Sought, bytes: &Bytes) -> Result<Option<TxnId>, Memory>
-    ensures { IfOk result (λ id. id ≡ read_id sought bytes.now) }
+/// The id that bytes are read as, if they are a record or a marker, and whether they are a short marker.
+fn id_in(alloc: Global, sought: Sought, bytes: &Bytes) -> Result<Option<(TxnId, bool)>, Memory>
+    ensures { IfOk result (λ read. read ≡ with_short (is_short sought bytes.now) (read_id sought bytes.now)) }
 {
     match sought {
         Sought::Record => match Commit::decode(alloc, bytes.as_slice()) {
-            Ok(commit) => Ok(Some(commit.id)),
+            Ok(commit) => Ok(Some((commit.id, false))),
             Err(RecordFault::Memory) => Err(Memory),
             Err(_) => Ok(None),
         },
         Sought::Marker => match Marker::decode(alloc, bytes.as_slice()) {
-            Ok(Marker::Full(commit)) => Ok(Some(commit.id)),
-            Ok(Marker::Done(id)) => Ok(Some(id)),
+            Ok(Marker::Full(commit)) => Ok(Some((commit.id, false))),
+            Ok(Marker::Done(id)) => Ok(Some((id, true))),
             Err(RecordFault::Memory) => Err(Memory),
             Err(_) => Ok(None),
         },
@@ -153,6 +155,22 @@ fn damaged(alloc: Global, uuid: Uuid, sought: Sought) -> Reply
     match name(sought, uuid).write(alloc) {
         Ok(text) => Reply::Damaged(text),
         Err(_) => Reply::NoMemory,
+    }
+}
+
+/// Deletes the short marker of an id, which was shown, and gives what is to be answered. Whoever doesn't hold the UUID goes the way
+/// of one that is shut out.
+pub(crate) fn forget<K: Keeper>(door: &mut Door<K>, by: By, attempt: Attempt, id: &TxnId) -> Reply
+    requires open { IsTrue (is_open door.old.history) }
+    requires short { IsTrue (knows_short_of (caller_of attempt) id.now door.old.history) }
+    ensures forgets { IsTrue (is_fenced (caller_of attempt) door.old.history || is_up (caller_of attempt) door.old.history && holds (caller_of attempt) id.now.uuid door.old.history) → ForgetsSo by attempt id.now door.old.history door.new.history result }
+    ensures may { IsTrue (is_begin_refusal (Some result)) }
+    ensures cause { HasCause (IsTrue (tells_fault result)) door.old.faults door.new.faults }
+    ensures store { SameStore door.old door.new }
+{
+    match door.forget(caller(by, attempt), *id) {
+        Ok(()) => Reply::Forgot(*id),
+        Err(fault) => refusal(fault, attempt),
     }
 }
 

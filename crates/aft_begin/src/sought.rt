@@ -1,6 +1,6 @@
-//! What a begin looks for at the store.
+//! What a line that claims a UUID looks for at the store.
 
-/// What a begin looks for under its UUID.
+/// What is looked for under a UUID.
 #[derive(Clone, Copy, Debug, PartialEq, Eq)]
 pub enum Sought {
     /// The record of its commit.

@@ -27,13 +27,13 @@ use Rattle.aft_lines.specs.CausesNodes.{is_boot_running}
 use Rattle.aft_lines.specs.CourseWords.{Ends, closes}
 use Rattle.aft_lines.specs.LineView.{LineView, ends_of, has_left, last_front}
 use Rattle.aft_lines.specs.Lines.{node_numbers}
-use Rattle.aft_lines.specs.Makes.{makes, starts_at_node}
+use Rattle.aft_lines.specs.Makes.{starts_at_node}
 use Rattle.aft_lines.specs.Progress.{MustComeUp, NotBegun, Progress}
 use Rattle.aft_lines.specs.RunsSoFar.{position_of}
 use Rattle.aft_lines.specs.Turns.{AtDoor, Turn, answer_in}
 use Rattle.aft_node.specs.declared.goes.BootEnd.{BootEnd}
 use Rattle.aft_node.specs.declared.goes.BootEnd.TheVariants.{Refused, Shown}
-use Rattle.aft_turns.specs.Stands.{EndsRightly, GoesRightly, HasLooked, IsUnanswered, RanSo}
+use Rattle.aft_turns.specs.Stands.{EndsRightly, GoesRightly, HasLooked, IsUnanswered, RanSo, is_right}
 use Rattle.aft_turns.specs.Trail.{Trail}
 use Rattle.aft_turns.specs.declared.turn.Where.TheVariants as places
 use Rattle.aft_turns.proofs.Closed.{led_is_some}
@@ -47,20 +47,28 @@ use Rattle.aft_boot.proofs.BootCauses.{left, shut_out, started, stopped}
 use Rattle.aft_boot.proofs.Entries.{AreDoor, are_silent, both_door, ends_with, last_answers, pages_door, up_door}
 use Rattle.aft_boot.proofs.Led.{Closes as ClosesLine, InBoot, any_call, at_in_boot, behind_pages, ends_any, ends_whole, goes_so, step, through, whole_so}
 
--- ---- lines of a start make its turns
+-- ---- its turns are those of a start of this node
 
-ups_make : (node inc : ℕ) (up : Option ℕ) → IsTrue (list_all (makes (commands.Start node)) (up_turns node inc up))
-ups_make node inc None = refl
-ups_make node inc (Some place) = refl
+-- each of some turns is one of such a start
+abbrev AreRight : ℕ → Hold → List Turn → Type 0
+AreRight node hold turns = IsTrue (list_all (is_right (commands.Start node) hold) turns)
 
-pages_make : (node inc : ℕ) (pages : List PageAt) → IsTrue (list_all (makes (commands.Start node)) (map (page_turn node inc) pages))
-pages_make node inc [] = refl
-pages_make node inc (page ∷ pages) = and_from _ _ refl (pages_make node inc pages)
+-- a turn at the node that a start makes
+right_at : (by : By) (node : ℕ) (hold : Hold) (before : List NodeEntry) (front : ℕ) (act : NodeAct) (answer : Option Reply) → IsTrue (starts_at_node act) → IsTrue (is_right (commands.Start node) hold (turn_at by node before front act answer))
+right_at by node hold before front act answer made = and_from _ _ (and_from _ _ (and_from _ _ made refl) (eq-eqb node node refl)) refl
 
-all_make : (by : By) (node inc : ℕ) (before : List NodeEntry) (front : ℕ) (up : Option ℕ) (pages : List PageAt) (more : List Turn) → IsTrue (list_all (makes (commands.Start node)) more) → IsTrue (list_all (makes (commands.Start node)) (begun_turns by node inc before front up pages ++ more))
-all_make by node inc before front up pages more its =
-    list_all-append (makes (commands.Start node)) (begun_turns by node inc before front up pages) more
-    ∙ and_from _ _ (and_from _ _ refl (list_all-append (makes (commands.Start node)) (up_turns node inc up) (map (page_turn node inc) pages) ∙ and_from _ _ (ups_make node inc up) (pages_make node inc pages))) its
+ups_right : (node inc : ℕ) (hold : Hold) (up : Option ℕ) → AreRight node hold (up_turns node inc up)
+ups_right node inc hold None = refl
+ups_right node inc hold (Some place) = and_from _ _ (and_from _ _ (eq-eqb node node refl) refl) refl
+
+pages_right : (node inc : ℕ) (hold : Hold) (pages : List PageAt) → AreRight node hold (map (page_turn node inc) pages)
+pages_right node inc hold [] = refl
+pages_right node inc hold (page ∷ pages) = and_from _ _ refl (pages_right node inc hold pages)
+
+all_right : (by : By) (node inc : ℕ) (hold : Hold) (before : List NodeEntry) (front : ℕ) (up : Option ℕ) (pages : List PageAt) (more : List Turn) → AreRight node hold more → AreRight node hold (begun_turns by node inc before front up pages ++ more)
+all_right by node inc hold before front up pages more its =
+    list_all-append (is_right (commands.Start node) hold) (begun_turns by node inc before front up pages) more
+    ∙ and_from _ _ (and_from _ _ (right_at by node hold before front (acts.Booting inc) None refl) (list_all-append (is_right (commands.Start node) hold) (up_turns node inc up) (map (page_turn node inc) pages) ∙ and_from _ _ (ups_right node inc hold up) (pages_right node inc hold pages))) its
 
 one_reply : (r q : Reply) → Some r ≡ Some q → r ≡ q
 one_reply r q e = cc
@@ -86,11 +94,10 @@ module _ (by : By) (node : ℕ) (hold : Hold) (view : LineView) (inc : ℕ) (bef
   abbrev Boots : List Turn → List Turn → Type 0
   Boots turns more = InBoot node inc (node_numbers view.settings) (ends_of (ran turns)) (fold (step node inc (node_numbers view.settings) (ends_of (ran turns))) (behind turns) more)
 
-  goes_right : (more : List Turn) → ((turns : List Turn) → Boots turns more) → IsTrue (list_all (makes (commands.Start node)) more) → GoesRightly (ran (begun more))
+  goes_right : (more : List Turn) → ((turns : List Turn) → Boots turns more) → AreRight node hold more → GoesRightly (ran (begun more))
   goes_right more boots its = record {
     leads = subst (λ (p : Option Progress). IsTrue (is_some p)) (sym (through node inc (node_numbers view.settings) (ends_of (ran (begun more))) by before front up pages more)) (some_position node inc (node_numbers view.settings) (ends_of (ran (begun more))) _ (boots (begun more)));
-    makes = all_make by node inc before front up pages more its;
-    speaks = refl;
+    right = all_right by node inc hold before front up pages more its;
   }
 
   silent_so : (more : List Turn) → AreDoor more → IsTrue (list_all (λ turn. is_silent (answer_in turn)) (begun more))
@@ -131,12 +138,11 @@ module _ (by : By) (node : ℕ) (hold : Hold) (view : LineView) (inc : ℕ) (bef
         subst (λ (p : Option Progress). IsTrue (is_led_to_end p)) (sym (leads_last more act reply))
         (ends_any node inc (node_numbers view.settings) (ends_of (ran (all_turns more act reply))) by before front last_before last_at act reply _ boots passes)
 
-    over : (more : List Turn) (act : NodeAct) (reply : Reply) → AreDoor more → IsTrue (list_all (makes (commands.Start node)) more) → IsTrue (starts_at_node act) → IsTrue (is_led_to_end (position_of (ran (all_turns more act reply)))) → Caused (ran (all_turns more act reply)) reply → GoesRightly (ran (all_turns more act reply)) × EndsRightly (ran (all_turns more act reply))
+    over : (more : List Turn) (act : NodeAct) (reply : Reply) → AreDoor more → AreRight node hold more → IsTrue (starts_at_node act) → IsTrue (is_led_to_end (position_of (ran (all_turns more act reply)))) → Caused (ran (all_turns more act reply)) reply → GoesRightly (ran (all_turns more act reply)) × EndsRightly (ran (all_turns more act reply))
     over more act reply door its made led caused = (
       record {
         leads = led_is_some _ led;
-        makes = list_all-append (makes (commands.Start node)) (begun more) (last act reply ∷ []) ∙ and_from _ _ (all_make by node inc before front up pages more its) (and_from _ _ made refl);
-        speaks = refl;
+        right = list_all-append (is_right (commands.Start node) hold) (begun more) (last act reply ∷ []) ∙ and_from _ _ (all_right by node inc hold before front up pages more its) (and_from _ _ (right_at by node hold last_before last_at act (Some reply) made) refl);
       },
       record {
         leads = led;
@@ -157,18 +163,17 @@ module _ (by : By) (node : ℕ) (hold : Hold) (view : LineView) (inc : ℕ) (bef
     leaves_line : (turns : List Turn) → IsTrue (has_left inc (node_state last_before)) → (whole : Bool) → Passes turns acts.Nothing (replies.NodeDown node inc) whole
     leaves_line turns gone whole = gone
 
-    pub left_rightly : (look : List DoorEntry) (more : List Turn) → AreDoor more → IsTrue (list_all (makes (commands.Start node)) more) → ((turns : List Turn) → Boots turns more) → IsTrue (has_left inc (node_state last_before)) → Rightly look (all_turns more acts.Nothing (replies.NodeDown node inc))
+    pub left_rightly : (look : List DoorEntry) (more : List Turn) → AreDoor more → AreRight node hold more → ((turns : List Turn) → Boots turns more) → IsTrue (has_left inc (node_state last_before)) → Rightly look (all_turns more acts.Nothing (replies.NodeDown node inc))
     left_rightly look more door its boots gone =
         let both = over more acts.Nothing (replies.NodeDown node inc) door its refl (led_any more acts.Nothing (replies.NodeDown node inc) (boots (all_turns more acts.Nothing (replies.NodeDown node inc))) (leaves_line (all_turns more acts.Nothing (replies.NodeDown node inc)) gone)) (left by node hold view inc before front newest_is up pages read last_before last_at more door acts.Nothing (replies.NodeDown node inc) gone) in
         (both.0, λ rest begins. both.1)
 
-    pub stopped_rightly : (look : List DoorEntry) (more : List Turn) (reply : Reply) → AreDoor more → IsTrue (list_all (makes (commands.Start node)) more) → ((turns : List Turn) → Boots turns more)
+    pub stopped_rightly : (look : List DoorEntry) (more : List Turn) (reply : Reply) → AreDoor more → AreRight node hold more → ((turns : List Turn) → Boots turns more)
         → ((rest : List DoorEntry) → take (last_front (ran (all_turns more (acts.BootStopped inc) reply))) view.seen ≡ look ++ rest → Caused (ran (all_turns more (acts.BootStopped inc) reply)) reply) → Rightly look (all_turns more (acts.BootStopped inc) reply)
     stopped_rightly look more reply door its boots caused = (
       (record {
         leads = led_is_some _ led;
-        makes = list_all-append (makes (commands.Start node)) (begun more) (last (acts.BootStopped inc) reply ∷ []) ∙ and_from _ _ (all_make by node inc before front up pages more its) refl;
-        speaks = refl;
+        right = list_all-append (is_right (commands.Start node) hold) (begun more) (last (acts.BootStopped inc) reply ∷ []) ∙ and_from _ _ (all_right by node inc hold before front up pages more its) (and_from _ _ (right_at by node hold last_before last_at (acts.BootStopped inc) (Some reply) refl) refl);
       }),
       λ rest begins. (over more (acts.BootStopped inc) reply door its refl led (caused rest begins)).1,
     )
@@ -194,7 +199,7 @@ module _ (by : By) (node : ℕ) (hold : Hold) (view : LineView) (before : List N
   ran_once = with_words (commands.Start node) hold (turn_at by node before front acts.Nothing (Some reply) ∷ []) view
 
   goes_once : GoesRightly ran_once
-  goes_once = record { leads = refl; makes = refl; speaks = refl }
+  goes_once = record { leads = refl; right = and_from _ _ (right_at by node hold before front acts.Nothing (Some reply) refl) refl }
 
   refused_caused : boot_refusal node (node_state before) ≡ Some reply → Caused ran_once reply
   refused_caused is = by_state (node_state before) refl is
@@ -321,7 +326,7 @@ module _ (by : By) (node : ℕ) (hold : Hold) (capacity : ℕ) (trail : Trail) (
   over_right (inr later) = later_right later later.end later.is_to later.closes
 
   pub goes_so_far : (stage : Stage) → made_at by node stage trail → GoesRightly view
-  goes_so_far Begins none = so GoesRightly [] (ap (λ (t : Trail). t.turns) none) (record { leads = refl; makes = refl; speaks = refl })
+  goes_so_far Begins none = so GoesRightly [] (ap (λ (t : Trail). t.turns) none) (record { leads = refl; right = refl })
   goes_so_far (ComesUp inc) begun = so GoesRightly _ begun.turns (goes_right by node hold view inc begun.before begun.front begun.newest None [] none_read [] (λ ts. inr (inl refl)) refl)
   goes_so_far (Scans inc after listed commits) its = so GoesRightly _ its.begun.turns (goes_right by node hold view inc its.begun.before its.begun.front its.begun.newest its.up its.pages its.read [] (λ ts. boots_on by node hold view inc its.begun.before its.begun.front its.begun.newest its.up its.pages its.read ts after its.goes) refl)
   goes_so_far (ToEnd inc (Shown commits)) has = so GoesRightly _ has.begun.turns (goes_right by node hold view inc has.begun.before has.begun.front has.begun.newest has.up has.pages has.read [] (λ ts. boots_whole by node hold view inc has.begun.before has.begun.front has.begun.newest has.up has.pages has.read ts has.whole) refl)

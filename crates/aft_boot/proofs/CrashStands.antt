@@ -27,7 +27,7 @@ use Rattle.aft_lines.specs.Makes.{crashes_at_node}
 use Rattle.aft_lines.specs.Progress.{IsOver}
 use Rattle.aft_lines.specs.RunsSoFar.{position_of}
 use Rattle.aft_lines.specs.Turns.{AtDoor, Turn}
-use Rattle.aft_turns.specs.Stands.{EndsRightly, GoesRightly, HasLooked, IsUnanswered, RanSo, SeesOwn, last_sees}
+use Rattle.aft_turns.specs.Stands.{EndsRightly, GoesRightly, HasLooked, IsUnanswered, RanSo, SeesOwn, is_right, last_sees}
 use Rattle.aft_turns.specs.Trail.{Trail}
 use Rattle.aft_turns.specs.declared.turn.Where.TheVariants as places
 use Rattle.aft_turns.proofs.Closed.{led_is_some}
@@ -89,7 +89,11 @@ module _ (by : By) (node : ℕ) (hold : Hold) (view : LineView) where
   ran turns = with_words (commands.Crash node) hold turns view
 
   nothing_yet : GoesRightly (ran [])
-  nothing_yet = record { leads = refl; makes = refl; speaks = refl }
+  nothing_yet = record { leads = refl; right = refl }
+
+  -- a turn at the node that a crash makes
+  right_at : (before : List NodeEntry) (front : ℕ) (act : NodeAct) (answer : Option Reply) → IsTrue (crashes_at_node act) → IsTrue (is_right (commands.Crash node) hold (turn_at by node before front act answer))
+  right_at before front act answer made = and_from _ _ (and_from _ _ (and_from _ _ made refl) (eq-eqb node node refl)) refl
 
   -- ---- it fenced one
 
@@ -97,8 +101,11 @@ module _ (by : By) (node : ℕ) (hold : Hold) (view : LineView) where
     abbrev fence : Turn
     fence = AtDoor place (Fence node inc)
 
+    fence_right : IsTrue (is_right (commands.Crash node) hold fence)
+    fence_right = and_from _ _ (eq-eqb node node refl) refl
+
     has_fenced : GoesRightly (ran (fence ∷ []))
-    has_fenced = record { leads = refl; makes = refl; speaks = refl }
+    has_fenced = record { leads = refl; right = and_from _ _ fence_right refl }
 
     module _ (before : List NodeEntry) (front : ℕ) where
       abbrev turns_of : NodeAct → List Turn
@@ -123,8 +130,7 @@ module _ (by : By) (node : ℕ) (hold : Hold) (view : LineView) where
       crashed_goes : (act : NodeAct) → GoesDown node (Some inc) before act (replies.Crashed node inc) → GoesRightly (ran (turns_of act))
       crashed_goes act down = record {
         leads = led_is_some _ (leads_so act down);
-        makes = and_from _ _ (makes_so act down) refl;
-        speaks = refl;
+        right = and_from _ _ fence_right (and_from _ _ (right_at before front act (Some (replies.Crashed node inc)) (makes_so act down)) refl);
       }
 
       crashed_ends : (act : NodeAct) → GoesDown node (Some inc) before act (replies.Crashed node inc) → EndsRightly (ran (turns_of act))
@@ -152,7 +158,7 @@ module _ (by : By) (node : ℕ) (hold : Hold) (view : LineView) where
         by_test false is = absurd (false≢true is)
 
     not_up_goes : GoesRightly (ran (alone ∷ []))
-    not_up_goes = record { leads = led_is_some _ leads_alone; makes = refl; speaks = refl }
+    not_up_goes = record { leads = led_is_some _ leads_alone; right = and_from _ _ (right_at before front acts.Nothing (Some (replies.NotUp node)) refl) refl }
 
     not_up_ends : (look rest : List DoorEntry) → up_now node look ≡ None → take front view.seen ≡ look ++ rest → earliest view.before (ran (alone ∷ [])) ≤ length look → EndsRightly (ran (alone ∷ []))
     not_up_ends look rest none begins late = record {

@@ -4,6 +4,7 @@ use Rattle.std.specs.Prelude.{Err, IsTrue, None, Ok, Option, Result, Some, if◌
 use Rattle.std.specs.List.{list_any}
 use Rattle.std.specs.Str.{bytes_eq}
 use Rattle.std.proofs.lemmas.Bool.{and_parts, or_cases, or_left}
+use Rattle.aft_id.specs.TxnId.{IsUuid}
 use Rattle.aft_keeper.specs.declared.keeper.KeeperAnswer.TheVariants as answers
 use Rattle.aft_keeper.specs.declared.keeper.KeeperCall.{KeeperCall}
 use Rattle.aft_keeper.specs.declared.keeper.KeeperCall.TheVariants.{Get}
@@ -45,7 +46,7 @@ module _ (by : By) (a : Attempt) (old new : DoorView) where
 
   -- ---- looks
 
-  module _ (c : Commit) where
+  module _ (c : Commit) (is_uuid : IsUuid c.id.uuid) where
     fenced_look : (fault : DoorFault) → (RefusedOrFailed {T = Option (List ℕ)} None (Err fault) → ⊥) → IsTrue (is_fenced (caller_of a) old.history || is_up (caller_of a) old.history) → RefusedOrFailed {T = Option (List ℕ)} (if_fenced who old.history) (Err fault) → IsTrue (is_fenced (caller_of a) old.history)
     fenced_look fault never may why = by_cases (or_cases (is_fenced (caller_of a) old.history) (is_up (caller_of a) old.history) may)
       where
@@ -66,7 +67,7 @@ module _ (by : By) (a : Attempt) (old new : DoorView) where
     by_bytes : (bytes : List ℕ) (sight : Sight) → Shows told_found old who (Get (record_name c.id.uuid)) (Ok (Some bytes)) new → Shown c bytes sight → LooksSo by a c old.history new.history sight
     by_bytes bytes sights.Recorded shows finds = (bytes, shows.history, finds)
     by_bytes bytes (sights.Refused reply) shows (inl lacks) = inr (inl (answers.Found bytes, shows.history, lacks))
-    by_bytes bytes (sights.Refused reply) shows (inr (other, is)) = inr (inr (bytes, shows.history, other, is))
+    by_bytes bytes (sights.Refused reply) shows (inr (other, is)) = inr (inr (bytes, shows.history, is_uuid, other, is))
     by_bytes bytes sights.Absent shows never = absurd never
     by_bytes bytes sights.Failed shows never = absurd never
 

@@ -1,8 +1,14 @@
 pub mod Asking
+pub mod Caused
 pub mod Coming
 pub mod DoorSteps
 pub mod Fitting
+pub mod Found
+pub mod Knowing
 pub mod Leading
 pub mod NodeSteps
+pub mod Once
 pub mod Opening
+pub mod Stands
 pub mod Stored
+pub mod Telling

@@ -43,6 +43,14 @@ may_put_at stage history = Unit {0}
 abbrev pub may_put : FinishView → List DoorEntry → Type 0
 may_put finish history = may_put_at finish.stage history
 
+-- what the incarnation of an attempt that stores knew before the line of the UUID: it has claimed it, and then found neither record nor marker
+abbrev pub knew_unused_at : Stage → List DoorEntry → Type 0
+knew_unused_at (Stores a r values count) history = IsTrue (knows_unused (caller_of a) r.commit.id.uuid history)
+knew_unused_at stage history = Unit {0}
+
+abbrev pub KnewUnused : FinishView → List DoorEntry → Type 0
+KnewUnused finish history = knew_unused_at finish.stage history
+
 -- ---- what only the run knows
 
 -- whether an attempt commits under this UUID

@@ -1,6 +1,7 @@
 -- What the calls of a commit or an abort at the door do, and what comes of them.
 use Rattle.std.specs.Prelude.{Bool, Err, IsFalse, IsTrue, List, None, Ok, Option, Result, Some, [], false, true, ℕ, ◌++◌, ◌∷◌, ◌≡◌, ◌⊎◌}
 use Rattle.std.specs.List.{slice_get}
+use Rattle.aft_id.specs.TxnId.{IsUuid}
 use Rattle.aft_keeper.specs.declared.keeper.KeeperAnswer.{KeeperAnswer}
 use Rattle.aft_keeper.specs.declared.keeper.KeeperAnswer.TheVariants as answers
 use Rattle.aft_keeper.specs.declared.keeper.KeeperCall.TheVariants.{Get, Put}
@@ -96,7 +97,7 @@ LooksSo by a c old new Recorded = (bytes : List ℕ) × (new ≡ with_act by (lo
 LooksSo by a c old new (Refused reply) =
     ((new ≡ old) × IsRefused a old reply)
     ⊎ ((answer : KeeperAnswer) × (new ≡ with_act by (look_act a c answer) old) × (reply ≡ replies.NoMemory))
-    ⊎ ((bytes : List ℕ) × (new ≡ with_act by (look_act a c (answers.Found bytes)) old) × IsFalse (finds_record c (answers.Found bytes)) × (reply ≡ replies.Damaged (record_name c.id.uuid)))
+    ⊎ ((bytes : List ℕ) × (new ≡ with_act by (look_act a c (answers.Found bytes)) old) × IsUuid c.id.uuid × IsFalse (finds_record c (answers.Found bytes)) × (reply ≡ replies.Damaged (record_name c.id.uuid)))
 
 -- the claim is let go, or the incarnation was fenced, and nothing was done
 abbrev pub ReleasesSo : By → Attempt → List ℕ → List DoorEntry → List DoorEntry → Bool → Type 0

@@ -1,4 +1,5 @@
 pub mod Asks
 pub mod Calls
 pub mod Made
+pub mod Told
 pub mod View

@@ -14,17 +14,15 @@ use Rattle.aft_model.specs.declared.reply.Reply.TheVariants as replies
 use Rattle.aft_model.specs.declared.script.Command.{Command}
 use Rattle.aft_model.specs.declared.script.Command.TheVariants as commands
 use Rattle.aft_model.specs.Attempts.{Write, written_keys}
-use Rattle.aft_model.specs.NodeSights.{is_fenced}
+use Rattle.aft_model.specs.NodeSights.{is_fenced, own_entries}
 use Rattle.aft_model.specs.NodeState.{node_state}
 use Rattle.aft_model.specs.Membership.{Incarnation}
 use Rattle.aft_model.specs.Replies.{is_silent}
 use Rattle.aft_lines.specs.Advance.{is_led_to_end, leads_to}
 use Rattle.aft_lines.specs.CommitCourse.{Storing}
 use Rattle.aft_lines.specs.CourseWords.{Ends, caller_of, tells_no_memory, tells_refused}
-use Rattle.aft_lines.specs.LegalTrace.{turn_of}
 use Rattle.aft_lines.specs.LineView.{has_left}
 use Rattle.aft_lines.specs.LineCourse.{answers_last}
-use Rattle.aft_lines.specs.Makes.{makes}
 use Rattle.aft_lines.specs.Progress.{EndsAborted, EndsCommitted, EndsLeft, FoundAborted, HasFailed, IsNodeStored, IsRecorded, IsStoring, MustDoubt, MustEnd, MustLeave, Progress, Settling}
 use Rattle.aft_lines.specs.Progress.{Outcome as Ending}
 use Rattle.aft_lines.specs.Turns.{AtNode, Turn, answer_in, end_front}
@@ -33,6 +31,8 @@ use Rattle.aft_commit.specs.declared.outcome.Outcome.TheVariants.{Absent, Left, 
 use Rattle.aft_commit.specs.declared.stage.Stage.{Stage}
 use Rattle.aft_commit.specs.declared.stage.Stage.TheVariants as stages
 use Rattle.aft_commit.specs.View.{FinishView}
+use Rattle.aft_commit.specs.Told.{entries_by, told_at}
+use Rattle.aft_turns.specs.Stands.{is_right, last_sees}
 use Rattle.aft_turns.specs.Trail.{Trail, no_trail}
 
 -- ---- any turn
@@ -51,13 +51,17 @@ abbrev pub turn_reads : ℕ → Turn → Bool
 turn_reads clock (AtNode node before entry) = act_reads clock entry.act
 turn_reads clock turn = true
 
--- whether a turn is one of such a line: lines of its command make it, it speaks of the attempt that its client holds, and reads this clock
+-- whether a turn is one of such a line, of a client that holds this, and reads this clock
 abbrev pub is_own : ℕ → Hold → Bool → Turn → Bool
-is_own clock hold aborts turn = makes (command_of aborts) turn && turn_of hold.attempt turn && turn_reads clock turn
+is_own clock hold aborts turn = is_right (command_of aborts) hold turn && turn_reads clock turn
 
 -- whether it answers nothing besides
 abbrev pub is_own_silent : ℕ → Hold → Bool → Turn → Bool
 is_own_silent clock hold aborts turn = is_own clock hold aborts turn && is_silent (answer_in turn)
+
+-- in each history of the door that has of the line just what these turns did there, the last of them has seen what it asks
+abbrev pub LastSees : By → List Turn → Type 0
+LastSees by turns = (seen : List DoorEntry) → own_entries by seen ≡ entries_by by turns → IsTrue (last_sees seen turns)
 
 -- ---- before the last turn
 
@@ -65,11 +69,13 @@ is_own_silent clock hold aborts turn = is_own clock hold aborts turn && is_silen
 abbrev pub LeadTo : Bool → List Turn → Progress → Type 0
 LeadTo aborts turns position = (nodes : List ℕ) (ends : Ends) → leads_to (command_of aborts) nodes ends turns ≡ Some position
 
--- a line that has come to a position, of an attempt that its client holds: none of its turns has answered
+-- a line that has come to a position, of an attempt that its client holds, which is of the line's node: none of its turns has answered
 pub record HasCome (clock : ℕ) (by : By) (hold : Hold) (aborts : Bool) (a : Attempt) (position : Progress) (trail : Trail) : Type 0 where
   pub held : hold.attempt ≡ Some a
+  pub place : a.node ≡ hold.node
   pub own : IsTrue (list_all (is_own_silent clock hold aborts) trail.turns)
   pub leads : LeadTo aborts trail.turns position
+  pub sees : LastSees by trail.turns
 
 -- what is stored of these writes
 abbrev pub storing_with : Attempt → Record → List Write → Storing
@@ -124,22 +130,27 @@ pub record HasEnded (clock : ℕ) (by : By) (hold : Hold) (aborts : Bool) (trail
   pub last_own : IsTrue (is_own clock hold aborts last)
   pub answers : IsTrue (answers_last trail.turns)
   pub leads : (nodes : List ℕ) (ends : Ends) → FitEnds trail.look trail.turns ends → IsTrue (is_led_to_end (leads_to (command_of aborts) nodes ends trail.turns))
+  pub sees : LastSees by trail.turns
 
--- what a commit or an abort has made by a stage
-abbrev pub made_at : ℕ → By → Hold → Bool → Stage → Trail → Type 0
-made_at clock by hold aborts stages.Begins trail = trail ≡ no_trail
-made_at clock by hold aborts (stages.Settles a r values) trail =
+-- where the turns of a commit or an abort have led by a stage
+abbrev pub led_at : ℕ → By → Hold → Bool → Stage → Trail → Type 0
+led_at clock by hold aborts stages.Begins trail = trail ≡ no_trail
+led_at clock by hold aborts (stages.Settles a r values) trail =
     (writes : List Write) × IsOf r writes × (aborts ≡ false → AreValues values writes) × HasCome clock by hold aborts a (Settling aborts (storing_with a r writes)) trail
-made_at clock by hold aborts (stages.Stores a r values count) trail =
+led_at clock by hold aborts (stages.Stores a r values count) trail =
     (writes : List Write) × IsOf r writes × AreValues values writes × (aborts ≡ false) × HasCome clock by hold aborts a (IsStoring (storing_with a r writes) (drop count writes)) trail
-made_at clock by hold aborts (stages.Failed a r) trail = (writes : List Write) × HasCome clock by hold aborts a (HasFailed (storing_with a r writes)) trail
-made_at clock by hold aborts (stages.Recorded a r) trail = (writes : List Write) × HasCome clock by hold aborts a (IsRecorded (storing_with a r writes)) trail
-made_at clock by hold aborts (stages.Releases a uuid outcome) trail = (position : Progress) × IsToRelease a uuid outcome position × HasCome clock by hold aborts a position trail
-made_at clock by hold aborts (stages.Doubts a reply) trail = (position : Progress) × MayDoubt a trail.look reply position × HasCome clock by hold aborts a position trail
-made_at clock by hold aborts (stages.Ends a uuid outcome) trail = HasCome clock by hold aborts a (MustEnd a (ending_of outcome)) trail
-made_at clock by hold aborts (stages.ShutOut a) trail =
+led_at clock by hold aborts (stages.Failed a r) trail = (writes : List Write) × HasCome clock by hold aborts a (HasFailed (storing_with a r writes)) trail
+led_at clock by hold aborts (stages.Recorded a r) trail = (writes : List Write) × HasCome clock by hold aborts a (IsRecorded (storing_with a r writes)) trail
+led_at clock by hold aborts (stages.Releases a uuid outcome) trail = (position : Progress) × IsToRelease a uuid outcome position × HasCome clock by hold aborts a position trail
+led_at clock by hold aborts (stages.Doubts a reply) trail = (position : Progress) × MayDoubt a trail.look reply position × HasCome clock by hold aborts a position trail
+led_at clock by hold aborts (stages.Ends a uuid outcome) trail = HasCome clock by hold aborts a (MustEnd a (ending_of outcome)) trail
+led_at clock by hold aborts (stages.ShutOut a) trail =
     (leaves : Bool) × (uuid : List ℕ) × HasCome clock by hold aborts a (MustLeave leaves a uuid) trail × IsTrue (is_fenced (caller_of a) trail.look)
-made_at clock by hold aborts stages.Ended trail = HasEnded clock by hold aborts trail
+led_at clock by hold aborts stages.Ended trail = HasEnded clock by hold aborts trail
+
+-- what a commit or an abort has made by a stage: where its turns have led, and what it was told
+abbrev pub made_at : ℕ → By → Hold → Bool → Stage → Trail → Type 0
+made_at clock by hold aborts stage trail = led_at clock by hold aborts stage trail × told_at clock by hold aborts stage trail
 
 -- a commit or an abort has made these turns
 abbrev pub Made : ℕ → FinishView → Trail → Type 0

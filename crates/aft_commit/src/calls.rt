@@ -129,6 +129,7 @@ pub(crate) fn look<K: Keeper>(
     ensures store { SameStore door.old door.new }
 {
     let uuid = written.commit.id.uuid;
+    uuid_bytes(&uuid);
     let name = Name::CommitOf { uuid };
     let told = door.get(caller(by, attempt), &name);
     seen(alloc, attempt, &written.commit, &name, told)

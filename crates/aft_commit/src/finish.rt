@@ -1,14 +1,21 @@
 //! A commit or an abort.
 
 ghost use Rattle.std.specs.Option.{ForSome};
-ghost use Rattle.std.specs.Prelude.{◌≡◌, ◌≤◌, ◌<◌, ℕ, IsTrue, false, true};
-ghost use Rattle.aft_commit.specs.Asks.{MayCall, MayEnd, may_close, may_put};
-ghost use Rattle.aft_commit.specs.Made.{Made};
+ghost use Rattle.std.specs.List.{list_all};
+ghost use Rattle.std.specs.Prelude.{◌≡◌, ◌≤◌, ◌<◌, ◌++◌, ℕ, IsTrue, List, false, true};
+ghost use Rattle.aft_commit.specs.Asks.{KnewUnused, MayCall, MayEnd, may_close, may_put};
+ghost use Rattle.aft_commit.specs.Made.{Made, command_of, turn_reads};
+ghost use Rattle.aft_commit.specs.Told.{entries_by};
 ghost use Rattle.aft_commit.specs.View.{IsStorable, ReadsClock, has_failed, left_of, next_of};
 ghost use Rattle.aft_keeper.specs.Cause.{HasCause};
+ghost use Rattle.aft_lines.specs.LegalTrace.{is_clock_time};
+ghost use Rattle.aft_lines.specs.LineView.{LineView};
 ghost use Rattle.aft_model.specs.DoorKnowledge.{is_open};
+ghost use Rattle.aft_model.specs.NodeSights.{own_entries};
+ghost use Rattle.aft_model.specs.declared.door.DoorEntry.{DoorEntry};
+ghost use Rattle.aft_turns.specs.Stands.{EndsRightly, GoesRightly, HasLooked, IsUnanswered, RanSo, SeesOwn, last_sees};
 ghost use Rattle.aft_turns.specs.Steps.{SameStore, StepsAtDoor, StepsAtNode};
-ghost use Rattle.aft_turns.specs.Trail.{no_trail};
+ghost use Rattle.aft_turns.specs.Trail.{Trail, no_trail};
 ghost use Rattle.aft_turns.specs.declared.turn.Where.TheVariants as places;
 
 use crate::stage::Stage;
@@ -164,4 +171,18 @@ impl Finish {
             stage,
         );
     }
+
+    /// What stands of its line, by the turns that it has made: they are a beginning of the course of a commit or an abort, made
+    /// rightly, and answer nothing before the last. Once it is over they are the whole course, and what is answered has its cause,
+    /// of a line whose clock is the one that the first turn read, where it tells one. A turn at the node has seen at the door what
+    /// it asks, and a commit that was fixed read that clock. Where its attempt's incarnation knew before the line that the UUID was
+    /// unused, it knows of each put what it must.
+    pub fn so_far(&self)
+        ensures goes { (clock capacity : ℕ) (trail : Trail) (view : LineView) → Made clock self.now trail → RanSo (command_of self.now.aborts) self.now.hold capacity trail view → (next_of self.now ≡ places.Done → HasLooked trail view) → GoesRightly view }
+        ensures unanswered { (clock capacity : ℕ) (trail : Trail) (view : LineView) → Made clock self.now trail → RanSo (command_of self.now.aborts) self.now.hold capacity trail view → 1 ≤ left_of self.now → IsUnanswered view }
+        ensures ends { (clock capacity : ℕ) (trail : Trail) (view : LineView) → Made clock self.now trail → RanSo (command_of self.now.aborts) self.now.hold capacity trail view → IsTrue (is_clock_time view.clock clock) → next_of self.now ≡ places.Done → HasLooked trail view → EndsRightly view }
+        ensures sees { (clock : ℕ) (trail : Trail) (seen : List DoorEntry) → Made clock self.now trail → SeesOwn self.now.by trail.turns seen → IsTrue (last_sees seen trail.turns) }
+        ensures knows { (clock : ℕ) (trail : Trail) (before since : List DoorEntry) → Made clock self.now trail → KnewUnused self.now before → own_entries self.now.by since ≡ entries_by self.now.by trail.turns → may_put self.now (before ++ since) }
+        ensures reads { (clock : ℕ) (trail : Trail) → Made clock self.now trail → IsTrue (list_all (turn_reads clock) trail.turns) }
+    {}
 }

@@ -15,6 +15,7 @@ use Rattle.aft_model.specs.declared.node.NodeEntry.{NodeEntry}
 use Rattle.aft_model.specs.declared.reply.Reply.{Reply}
 use Rattle.aft_model.specs.declared.reply.Reply.TheVariants as replies
 use Rattle.aft_model.specs.declared.script.Command.TheVariants as commands
+use Rattle.aft_model.proofs.Sights.{bytes_eq-refl}
 use Rattle.aft_model.specs.Attempts.{AttemptState, IsGone, IsRunning, attempt_state, is_gone, is_running}
 use Rattle.aft_model.specs.Membership.{incarnation}
 use Rattle.aft_model.specs.NodeRules.{pick, same_picked}
@@ -25,16 +26,21 @@ use Rattle.aft_lines.specs.Advance.{got_with, is_led_to_end}
 use Rattle.aft_lines.specs.Causes.{Caused}
 use Rattle.aft_lines.specs.CausesAttempts.{is_refused_by, state_in}
 use Rattle.aft_lines.specs.CausesNodes.{is_lost, is_of_held}
-use Rattle.aft_lines.specs.LegalTrace.{act_of}
+use Rattle.aft_lines.specs.LegalTrace.{act_of, node_words}
 use Rattle.aft_lines.specs.LineView.{LineView, is_served}
 use Rattle.aft_lines.specs.Makes.{gets_at_node}
 use Rattle.law_attempts.proofs.Standing.{same_itself}
 use Rattle.aft_node.specs.Held.{get_refusal, running_refusal}
-use Rattle.aft_turns.specs.Stands.{EndsRightly, GoesRightly, last_sees}
+use Rattle.aft_turns.specs.Stands.{EndsRightly, GoesRightly, is_right, last_sees}
 use Rattle.aft_turns.proofs.Closed.{led_is_some}
 use Rattle.aft_turns.proofs.Views.{with_words}
 use Rattle.aft_read.specs.Made.{AnswersAtOnce, Picks, turn_at}
 use Rattle.aft_read.proofs.Picked.{found_so, picked_so}
+
+-- a turn at the get's node that a get makes, of this key and of the attempt that is held
+pub right_at : (by : By) (hold : Hold) (key : List ℕ) (before : List NodeEntry) (front : ℕ) (act : NodeAct) (answer : Option Reply) → IsTrue (gets_at_node act) → IsTrue (node_words (commands.Get key) act) → IsTrue (act_of hold.attempt act)
+    → IsTrue (is_right (commands.Get key) hold (turn_at by hold before front act answer))
+right_at by hold key before front act answer made carries speaks = and_from _ _ (and_from _ _ (and_from _ _ made carries) (eq-eqb hold.node hold.node refl)) speaks
 
 module _ (capacity : ℕ) (by : By) (hold : Hold) (key : List ℕ) (before : List NodeEntry) (front : ℕ) (view : LineView) (cache : view.settings.cache ≡ capacity) where
   -- the line whose one turn did this
@@ -53,17 +59,13 @@ module _ (capacity : ℕ) (by : By) (hold : Hold) (key : List ℕ) (before : Lis
   leads act answer (inr (inr (a, what, picks, some, did, told))) =
       subst (λ (x : NodeAct). IsTrue (is_led_to_end (got_with x))) (sym did) (no_fetch a what (subst (λ (o : Option Reply). IsTrue (is_some o)) told some))
 
-  makes_so : (act : NodeAct) (answer : Option Reply) → AnswersAtOnce capacity hold key before act answer → IsTrue (gets_at_node act)
-  makes_so act answer (inl (did, told)) = subst (λ (x : NodeAct). IsTrue (gets_at_node x)) (sym did) refl
-  makes_so act answer (inr (inl (did, some, told, ours))) = subst (λ (x : NodeAct). IsTrue (gets_at_node x)) (sym did) refl
-  makes_so act answer (inr (inr (a, what, picks, some, did, told))) = subst (λ (x : NodeAct). IsTrue (gets_at_node x)) (sym did) refl
-
-  speaks_so : (act : NodeAct) (answer : Option Reply) → AnswersAtOnce capacity hold key before act answer → IsTrue (act_of hold.attempt act)
-  speaks_so act answer (inl (did, told)) = subst (λ (x : NodeAct). IsTrue (act_of hold.attempt x)) (sym did) refl
-  speaks_so act answer (inr (inl (did, some, told, ours))) = subst (λ (x : NodeAct). IsTrue (act_of hold.attempt x)) (sym did) refl
-  speaks_so act answer (inr (inr (a, what, picks, some, did, told))) =
-      subst (λ (x : NodeAct). IsTrue (act_of hold.attempt x)) (sym did)
-      (subst (λ (o : Option Attempt). IsTrue (act_of o (acts.Select a key what))) (sym picks.held) (same_itself a))
+  right_so : (act : NodeAct) (answer : Option Reply) → AnswersAtOnce capacity hold key before act answer → IsTrue (is_right (commands.Get key) hold (turn_at by hold before front act answer))
+  right_so act answer (inl (did, told)) = subst (λ (x : NodeAct). IsTrue (is_right (commands.Get key) hold (turn_at by hold before front x answer))) (sym did) (right_at by hold key before front acts.Nothing answer refl refl refl)
+  right_so act answer (inr (inl (did, some, told, ours))) = subst (λ (x : NodeAct). IsTrue (is_right (commands.Get key) hold (turn_at by hold before front x answer))) (sym did) (right_at by hold key before front acts.Nothing answer refl refl refl)
+  right_so act answer (inr (inr (a, what, picks, some, did, told))) =
+      subst (λ (x : NodeAct). IsTrue (is_right (commands.Get key) hold (turn_at by hold before front x answer))) (sym did)
+      (right_at by hold key before front (acts.Select a key what) answer refl (bytes_eq-refl key)
+      (subst (λ (o : Option Attempt). IsTrue (act_of o (acts.Select a key what))) (sym picks.held) (same_itself a)))
 
   some_answer : (act : NodeAct) (answer : Option Reply) → AnswersAtOnce capacity hold key before act answer → IsTrue (is_some answer)
   some_answer act answer (inl (did, told)) = subst (λ (o : Option Reply). IsTrue (is_some o)) (sym told) refl
@@ -137,8 +139,7 @@ module _ (capacity : ℕ) (by : By) (hold : Hold) (key : List ℕ) (before : Lis
   pub goes : (act : NodeAct) (answer : Option Reply) → AnswersAtOnce capacity hold key before act answer → GoesRightly (ran act answer)
   goes act answer at_once = record {
     leads = led_is_some (got_with act) (leads act answer at_once);
-    makes = and_from _ _ (makes_so act answer at_once) refl;
-    speaks = and_from _ _ (speaks_so act answer at_once) refl;
+    right = and_from _ _ (right_so act answer at_once) refl;
   }
 
   pub ends : (act : NodeAct) (answer : Option Reply) → AnswersAtOnce capacity hold key before act answer → EndsRightly (ran act answer)

@@ -15,22 +15,22 @@ use Rattle.aft_model.specs.declared.node.NodeEntry.{NodeEntry}
 use Rattle.aft_model.specs.declared.reply.Reply.{Reply}
 use Rattle.aft_model.specs.declared.reply.Reply.TheVariants as replies
 use Rattle.aft_model.specs.declared.script.Command.TheVariants as commands
+use Rattle.aft_model.proofs.Sights.{bytes_eq-refl}
 use Rattle.aft_model.specs.History.{at_place}
 use Rattle.aft_model.specs.Membership.{incarnation}
 use Rattle.aft_model.specs.NodeSights.{finds_version, has_seen, is_fetched, is_own_find}
 use Rattle.aft_model.specs.Replies.{is_silent}
 use Rattle.aft_lines.specs.Advance.{is_led_to_end}
-use Rattle.aft_lines.specs.LegalTrace.{act_of, is_held_attempt, turn_of}
+use Rattle.aft_lines.specs.LegalTrace.{is_held_attempt}
 use Rattle.aft_lines.specs.LineCourse.{answers_last}
 use Rattle.aft_lines.specs.LineView.{LineView, ends_of, last_front}
 use Rattle.aft_lines.specs.Lines.{node_numbers}
-use Rattle.aft_lines.specs.Makes.{gets_at_node, makes}
 use Rattle.aft_lines.specs.RunsSoFar.{position_of}
 use Rattle.aft_lines.specs.Turns.{AtDoor, Turn, answer_in}
 use Rattle.law_attempts.proofs.Standing.{same_itself}
 use Rattle.aft_node.specs.declared.goes.Got.{Got}
 use Rattle.aft_node.specs.declared.goes.Got.TheVariants.{Refused, Version as Came}
-use Rattle.aft_turns.specs.Stands.{EndsRightly, GoesRightly, HasLooked, IsUnanswered, RanSo, SeesOwn, StandIn, end_answer, last_sees}
+use Rattle.aft_turns.specs.Stands.{EndsRightly, GoesRightly, HasLooked, IsUnanswered, RanSo, SeesOwn, StandIn, end_answer, is_right, last_sees}
 use Rattle.aft_turns.specs.Trail.{Trail}
 use Rattle.aft_turns.specs.declared.turn.Where.TheVariants as places
 use Rattle.aft_turns.proofs.Closed.{led_is_some}
@@ -43,18 +43,15 @@ use Rattle.aft_read.specs.declared.stage.Stage.TheVariants.{Begins, Comes, Ended
 use Rattle.aft_read.proofs.Ended.{caused_so}
 use Rattle.aft_read.proofs.Led.{goes_on, led_to_end}
 use Rattle.aft_read.proofs.Once as once
+use Rattle.aft_read.proofs.Once.{right_at}
 use Rattle.aft_read.proofs.Reading.{finds_came}
 
--- lines of a get make the turn, and it speaks of the attempt that is held
-abbrev IsRight : List ℕ → Hold → Turn → Type 0
-IsRight key hold turn = IsTrue (makes (commands.Get key) turn) × IsTrue (turn_of hold.attempt turn)
-
--- the same of each of some turns
+-- each of some turns is one of such a get
 abbrev AreRight : List ℕ → Hold → List Turn → Type 0
-AreRight key hold turns = IsTrue (list_all (makes (commands.Get key)) turns) × IsTrue (list_all (turn_of hold.attempt) turns)
+AreRight key hold turns = IsTrue (list_all (is_right (commands.Get key) hold) turns)
 
-right_and : (key : List ℕ) (hold : Hold) (turn : Turn) (turns : List Turn) → IsRight key hold turn → AreRight key hold turns → AreRight key hold (turn ∷ turns)
-right_and key hold turn turns one others = (and_from _ _ one.0 others.0, and_from _ _ one.1 others.1)
+right_and : (key : List ℕ) (hold : Hold) (turn : Turn) (turns : List Turn) → IsTrue (is_right (commands.Get key) hold turn) → AreRight key hold turns → AreRight key hold (turn ∷ turns)
+right_and key hold turn turns one others = and_from _ _ one others
 
 -- a get whose next turn is nowhere has no turn left
 pub nothing_left : (node : ℕ) (stage : Stage) → next_at node stage ≡ places.Done → left_at stage ≡ 0
@@ -70,13 +67,13 @@ module _ (capacity : ℕ) (by : By) (hold : Hold) (key : List ℕ) where
   -- the turns between the pick and the end
   between : (a : Attempt) (id : TxnId) (got : Got) (place : ℕ) (look : List DoorEntry) (more : List Turn) (rest : List Turn) → Fetched a key id got place look more → AreRight key hold rest → AreRight key hold (more ++ rest)
   between a id got place look more rest (inl (none, was)) right = subst (λ (ts : List Turn). AreRight key hold (ts ++ rest)) (sym none) right
-  between a id got place look more rest (inr (answer, words, one, came)) right = subst (λ (ts : List Turn). AreRight key hold (ts ++ rest)) (sym one) (right_and key hold (AtDoor place (fetch_act a key id answer)) rest (refl, refl) right)
+  between a id got place look more rest (inr (answer, words, one, came)) right = subst (λ (ts : List Turn). AreRight key hold (ts ++ rest)) (sym one) (right_and key hold (AtDoor place (fetch_act a key id answer)) rest refl right)
 
   -- the last turn
-  closing : (a : Attempt) (id : TxnId) (got : Got) (place : ℕ) (before : List NodeEntry) (front : ℕ) (act : NodeAct) (answer : Option Reply) → hold.attempt ≡ Some a → Closes a key id place got before act answer → IsRight key hold (turn_at by hold before front act answer)
-  closing a id (Came value) place before front act answer held (inl (kept, did, told)) = subst (λ (x : NodeAct). IsTrue (gets_at_node x) × IsTrue (act_of hold.attempt x)) (sym did) (refl, of_held a held)
-  closing a id (Refused reply) place before front act answer held (inl (did, told)) = subst (λ (x : NodeAct). IsTrue (gets_at_node x) × IsTrue (act_of hold.attempt x)) (sym did) (refl, of_held a held)
-  closing a id got place before front act answer held (inr (left, did, told)) = subst (λ (x : NodeAct). IsTrue (gets_at_node x) × IsTrue (act_of hold.attempt x)) (sym did) (refl, refl)
+  closing : (a : Attempt) (id : TxnId) (got : Got) (place : ℕ) (before : List NodeEntry) (front : ℕ) (act : NodeAct) (answer : Option Reply) → hold.attempt ≡ Some a → Closes a key id place got before act answer → IsTrue (is_right (commands.Get key) hold (turn_at by hold before front act answer))
+  closing a id (Came value) place before front act answer held (inl (kept, did, told)) = subst (λ (x : NodeAct). IsTrue (is_right (commands.Get key) hold (turn_at by hold before front x answer))) (sym did) (right_at by hold key before front (acts.Value a key id place kept) answer refl refl (of_held a held))
+  closing a id (Refused reply) place before front act answer held (inl (did, told)) = subst (λ (x : NodeAct). IsTrue (is_right (commands.Get key) hold (turn_at by hold before front x answer))) (sym did) (right_at by hold key before front (acts.Lost a key id) answer refl refl (of_held a held))
+  closing a id got place before front act answer held (inr (left, did, told)) = subst (λ (x : NodeAct). IsTrue (is_right (commands.Get key) hold (turn_at by hold before front x answer))) (sym did) (right_at by hold key before front acts.Nothing answer refl refl refl)
 
   told_some : (a : Attempt) (id : TxnId) (got : Got) (place : ℕ) (before : List NodeEntry) (act : NodeAct) (answer : Option Reply) → Closes a key id place got before act answer → IsTrue (is_some answer)
   told_some a id (Came value) place before act answer (inl (kept, did, told)) = subst (λ (o : Option Reply). IsTrue (is_some o)) (sym told) refl
@@ -86,23 +83,22 @@ module _ (capacity : ℕ) (by : By) (hold : Hold) (key : List ℕ) where
   -- ---- a get that goes on
 
   nothing_yet : (view : LineView) → GoesRightly (with_words (commands.Get key) hold [] view)
-  nothing_yet view = record { leads = refl; makes = refl; speaks = refl }
+  nothing_yet view = record { leads = refl; right = refl }
 
   module _ (view : LineView) (a : Attempt) (id : TxnId) (before : List NodeEntry) (front : ℕ) (picks : Picks capacity hold key a (picked.Fetch id) before) where
     abbrev pick_turn : Turn
     pick_turn = turn_at by hold before front (acts.Select a key (picked.Fetch id)) None
 
-    pick_right : IsRight key hold pick_turn
-    pick_right = (refl, of_held a picks.held)
+    pick_right : IsTrue (is_right (commands.Get key) hold pick_turn)
+    pick_right = right_at by hold key before front (acts.Select a key (picked.Fetch id)) None refl (bytes_eq-refl key) (of_held a picks.held)
 
     fetches : (got : Got) (place : ℕ) (look : List DoorEntry) (more : List Turn) → Fetched a key id got place look more → GoesRightly (with_words (commands.Get key) hold (pick_turn ∷ more) view)
     fetches got place look more fetched =
-        let right = right_and key hold pick_turn (more ++ []) pick_right (between a id got place look more [] fetched (refl, refl)) in
+        let right = right_and key hold pick_turn (more ++ []) pick_right (between a id got place look more [] fetched refl) in
         let same : pick_turn ∷ more ++ [] ≡ pick_turn ∷ more = ap (λ (ts : List Turn). pick_turn ∷ ts) (append-nil more) in
         record {
           leads = goes_on (node_numbers view.settings) key (ends_of (with_words (commands.Get key) hold (pick_turn ∷ more) view)) (λ inc q left. left) by hold a picks.place id before front more got place look fetched;
-          makes = subst (λ (ts : List Turn). IsTrue (list_all (makes (commands.Get key)) ts)) same right.0;
-          speaks = subst (λ (ts : List Turn). IsTrue (list_all (turn_of hold.attempt) ts)) same right.1;
+          right = subst (AreRight key hold) same right;
         }
 
     silent : (got : Got) (place : ℕ) (look : List DoorEntry) (more : List Turn) → Fetched a key id got place look more → IsTrue (list_all (λ turn. is_silent (answer_in turn)) (pick_turn ∷ more))
@@ -124,9 +120,9 @@ module _ (capacity : ℕ) (by : By) (hold : Hold) (key : List ℕ) where
 
     fetch_right : Fetched a key id got place look more → Closes a key id place got before act answer → GoesRightly ran
     fetch_right fetched closes =
-        let last = right_and key hold (turn_at by hold before front act answer) [] (closing a id got place before front act answer picks.held closes) (refl, refl) in
-        let right = right_and key hold (turn_at by hold first_before first_front (acts.Select a key (picked.Fetch id)) None) (more ++ turn_at by hold before front act answer ∷ []) (refl, of_held a picks.held) (between a id got place look more (turn_at by hold before front act answer ∷ []) fetched last) in
-        record { leads = led_is_some (position_of ran) (led_so fetched closes); makes = right.0; speaks = right.1 }
+        let last = right_and key hold (turn_at by hold before front act answer) [] (closing a id got place before front act answer picks.held closes) refl in
+        let right = right_and key hold (turn_at by hold first_before first_front (acts.Select a key (picked.Fetch id)) None) (more ++ turn_at by hold before front act answer ∷ []) (right_at by hold key first_before first_front (acts.Select a key (picked.Fetch id)) None refl (bytes_eq-refl key) (of_held a picks.held)) (between a id got place look more (turn_at by hold before front act answer ∷ []) fetched last) in
+        record { leads = led_is_some (position_of ran) (led_so fetched closes); right = right }
 
     answers_so : Fetched a key id got place look more → IsTrue (is_some answer) → IsTrue (answers_last all_turns)
     answers_so (inl (none, was)) some = subst (λ (ts : List Turn). IsTrue (answers_last (turn_at by hold first_before first_front (acts.Select a key (picked.Fetch id)) None ∷ ts ++ turn_at by hold before front act answer ∷ []))) (sym none) some

@@ -1,5 +1,5 @@
 -- What stands of a line by the trail of its machine: while it runs, and once it is over.
-use Rattle.std.specs.Prelude.{Bool, IsTrue, List, None, Option, Some, [], is_some, not, take, true, ℕ, ◌++◌, ◌≡◌, ◌||◌, ◌∷◌}
+use Rattle.std.specs.Prelude.{Bool, IsTrue, List, None, Option, Some, [], is_some, not, take, true, ℕ, ◌&&◌, ◌++◌, ◌≡◌, ◌||◌, ◌∷◌}
 use Rattle.std.specs.List.{flat_map, fold, list_all}
 use Rattle.aft_model.specs.declared.caller.By.{By}
 use Rattle.aft_model.specs.declared.caller.Hold.{Hold}
@@ -12,7 +12,7 @@ use Rattle.aft_model.specs.Replies.{is_silent}
 use Rattle.aft_lines.specs.Advance.{is_led_to_end}
 use Rattle.aft_lines.specs.Causes.{Caused}
 use Rattle.aft_lines.specs.CausesAttempts.{speaks_of_attempt}
-use Rattle.aft_lines.specs.LegalTrace.{turn_of}
+use Rattle.aft_lines.specs.LegalTrace.{named_node, stands_at, turn_of, turn_words}
 use Rattle.aft_lines.specs.LineCourse.{answers_last}
 use Rattle.aft_lines.specs.LineView.{LineView, door_entry_in, last_front}
 use Rattle.aft_lines.specs.Makes.{makes}
@@ -35,11 +35,15 @@ HasLooked trail view = (rest : List DoorEntry) × (take (last_front view) view.s
 abbrev pub end_answer : List Turn → Option Reply
 end_answer line = fold (λ before turn. answer_in turn) None line
 
--- what stands of any line: its turns lead somewhere in its course, lines of its command make them, and they speak of the attempt that its client holds
+-- whether a turn is one of a line that asks this, of a client that holds this: lines of its command make it, it carries the command's words, stands at the line's node, and speaks of the attempt that is held, where the command speaks of one
+abbrev pub is_right : Command → Hold → Turn → Bool
+is_right command hold turn =
+    makes command turn && turn_words command turn && stands_at (named_node command hold) turn && (not (speaks_of_attempt command) || turn_of hold.attempt turn)
+
+-- what stands of any line: its turns lead somewhere in its course, and are those of such a line
 pub record GoesRightly (view : LineView) : Type 0 where
   pub leads : IsTrue (is_some (position_of view))
-  pub makes : IsTrue (list_all (makes view.command) view.turns)
-  pub speaks : IsTrue (not (speaks_of_attempt view.command) || list_all (turn_of view.hold.attempt) view.turns)
+  pub right : IsTrue (list_all (is_right view.command view.hold) view.turns)
 
 -- of one that isn't over: none of its turns has answered
 abbrev pub IsUnanswered : LineView → Type 0

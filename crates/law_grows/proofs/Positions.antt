@@ -24,6 +24,7 @@ use Rattle.aft_model.specs.Sound.{records_prefix}
 use Rattle.aft_lines.specs.Advance.{GoesOn, HasEnded, Scan, advance, advance_claim, advance_copy, advance_finish, advanced, behind_copied_markers, behind_marker, behind_unused, closed_by, copies_on, doubted_by, fenced_by, forgotten_by, freed_by, goes_along, got_by, if_nothing, if_so, is_led_to_end, leads_to, left_alone, made_along, or_at, paged_by, released_by, scan_of, scanned_by, shut_out_by}
 use Rattle.aft_lines.specs.BackupCourse.{Copier, copier, names_to_copy, with_uuid_order}
 use Rattle.aft_lines.specs.BeginCourse.{Beginning, begins_running, gives_back}
+use Rattle.aft_lines.specs.CausesRounds.{is_collect}
 use Rattle.aft_lines.specs.CollectCourse.{Collection, collect_after, collection, collect_course, is_collected, is_scanned_whole, was_cut}
 use Rattle.aft_lines.specs.CommitCourse.{doubts}
 use Rattle.aft_lines.specs.CourseWords.{Ends, answers_down, caller_of, ends_at_office, tells_down, tells_no_memory}
@@ -38,16 +39,29 @@ use Rattle.law_rounds.specs.Along.{is_along}
 use Rattle.law_rounds.proofs.Copies.{backup_led}
 use Rattle.law_rounds.proofs.Orphans.{orphans_led}
 use Rattle.law_rounds.proofs.Starts.{start_led}
-use Rattle.law_grows.specs.Reach.{SameWithin, is_within}
+use Rattle.law_grows.specs.Reach.{SameKept, SameWithin, is_within}
 use Rattle.law_grows.proofs.Collecting.{collection_same}
 
-module _ (reach : ℕ) (left : ℕ → NodeState → Bool) (kept : ℕ → Commit → List Turn → List Turn → Bool) (seen seen' : List DoorEntry) (shut shut' : Incarnation → ℕ → Bool)
+-- the front at which a line ends is within
+pub end_within : (reach : ℕ) (line : List Turn) → IsTrue (list_all (is_within reach) line) → end_front line ≤ reach
+end_within reach line so = last line so 0 (omega arith)
+  where
+    turn_within : (turn : Turn) → IsTrue (is_within reach turn) → front_in turn ≤ reach
+    turn_within (AtDoor place act) is = omega arith
+    turn_within (AtNode node before entry) is = leb-true entry.front reach is
+    turn_within (AtOffice before entry) is = leb-true entry.front reach is
+
+    last : (turns : List Turn) → IsTrue (list_all (is_within reach) turns) → (from : ℕ) → from ≤ reach → fold (λ before turn. front_in turn) from turns ≤ reach
+    last [] is from low = low
+    last (turn ∷ turns) is from low = (let parts = and_parts (is_within reach turn) (list_all (is_within reach) turns) is in last turns parts.1 (front_in turn) (turn_within turn parts.0))
+
+module _ (reach : ℕ) (left : ℕ → NodeState → Bool) (kept kept' : ℕ → Commit → List Turn → List Turn → Bool) (seen seen' : List DoorEntry) (shut shut' : Incarnation → ℕ → Bool)
     (same_seen : (place : ℕ) → place ≤ reach → take place seen ≡ take place seen') (same_shut : (who : Incarnation) (front : ℕ) → front ≤ reach → shut who front ≡ shut' who front) where
   abbrev one : Ends
   one = record { seen = seen; is_shut_out = shut; is_left = left; is_kept = kept }
 
   abbrev two : Ends
-  two = record { seen = seen'; is_shut_out = shut'; is_left = left; is_kept = kept }
+  two = record { seen = seen'; is_shut_out = shut'; is_left = left; is_kept = kept' }
 
   abbrev within : List Turn → Bool
   within line = list_all (is_within reach) line
@@ -163,47 +177,41 @@ module _ (reach : ℕ) (left : ℕ → NodeState → Bool) (kept : ℕ → Commi
 
   -- ---- the courses
 
-  -- the front at which a line ends is within
-  end_within : (line : List Turn) → IsTrue (within line) → end_front line ≤ reach
-  end_within line so = last line so 0 (omega arith)
+  -- the second ends with the other's test of what was kept
+  abbrev between : Ends
+  between = record { seen = seen'; is_shut_out = shut'; is_left = left; is_kept = kept }
+
+  collect_same : (nodes : List ℕ) (line : List Turn) → kept ≡ kept' → IsTrue (within line) → collect_course nodes one line ≡ collect_course nodes two line
+  collect_same nodes line same so = by_turns line so ∙ ap (λ (k : ℕ → Commit → List Turn → List Turn → Bool). collect_course nodes (record { seen = seen'; is_shut_out = shut'; is_left = left; is_kept = k }) line) same
     where
-      turn_within : (turn : Turn) → IsTrue (is_within reach turn) → front_in turn ≤ reach
-      turn_within (AtDoor place act) is = omega arith
-      turn_within (AtNode node before entry) is = leb-true entry.front reach is
-      turn_within (AtOffice before entry) is = leb-true entry.front reach is
+      by_act : (act : OfficeAct) (answer : Option Reply) (line : List Turn) → collection one nodes line ≡ collection between nodes line → collect_after one nodes act answer line ≡ collect_after between nodes act answer line
+      by_act office_acts.Collecting answer line e = ap (λ (c : Collection). ends_at_office (is_collected (is_scanned_whole line) (was_cut c.ended)) c.behind) e
+      by_act act answer line e = refl
 
-      last : (turns : List Turn) → IsTrue (within turns) → (from : ℕ) → from ≤ reach → fold (λ before turn. front_in turn) from turns ≤ reach
-      last [] is from low = low
-      last (turn ∷ turns) is from low = (let parts = and_parts (is_within reach turn) (within turns) is in last turns parts.1 (front_in turn) (turn_within turn parts.0))
+      by_turns : (line : List Turn) → IsTrue (within line) → collect_course nodes one line ≡ collect_course nodes between line
+      by_turns [] so = refl
+      by_turns (AtDoor place act ∷ line) so = refl
+      by_turns (AtNode node before entry ∷ line) so = refl
+      by_turns (AtOffice before entry ∷ line) so = by_act entry.act entry.answer line (collection_same left kept seen seen' shut shut' (end_front line) (λ who. same_shut who (end_front line) (end_within reach line (and_parts (nat_le entry.front reach) (within line) so).1)) nodes line refl)
 
-  collect_same : (nodes : List ℕ) (line : List Turn) → IsTrue (within line) → collect_course nodes one line ≡ collect_course nodes two line
-  collect_same nodes [] so = refl
-  collect_same nodes (AtDoor place act ∷ line) so = refl
-  collect_same nodes (AtNode node before entry ∷ line) so = refl
-  collect_same nodes (AtOffice before entry ∷ line) so = by_act entry.act (collection_same left kept seen seen' shut shut' (end_front line) (λ who. same_shut who (end_front line) (end_within line (and_parts (nat_le entry.front reach) (within line) so).1)) nodes line refl)
-    where
-      by_act : (act : OfficeAct) → collection one nodes line ≡ collection two nodes line → collect_after one nodes act entry.answer line ≡ collect_after two nodes act entry.answer line
-      by_act office_acts.Collecting e = ap (λ (c : Collection). ends_at_office (is_collected (is_scanned_whole line) (was_cut c.ended)) c.behind) e
-      by_act act e = refl
-
-  pub course_same : (command : Command) (nodes : List ℕ) (line : List Turn) → shut the_office 0 ≡ false → IsTrue (within line) → follows_course command nodes one line ≡ follows_course command nodes two line
-  course_same (commands.Begin uuid node) nodes line up so = begin_led uuid node nodes one line ∙ ap is_led_to_end (lead_same (commands.Begin uuid node) nodes refl line so (Some NotBegun)) ∙ sym (begin_led uuid node nodes two line)
-  course_same (commands.Forget uuid node) nodes line up so = forget_led uuid node nodes one line ∙ ap is_led_to_end (lead_same (commands.Forget uuid node) nodes refl line so (Some NotBegun)) ∙ sym (forget_led uuid node nodes two line)
-  course_same (commands.Get key) nodes line up so = get_led key nodes one line ∙ ap is_led_to_end (lead_same (commands.Get key) nodes refl line so (Some NotBegun)) ∙ sym (get_led key nodes two line)
-  course_same commands.Commit nodes line up so = finish_led nodes one false line ∙ ap is_led_to_end (lead_same commands.Commit nodes refl line so (Some NotBegun)) ∙ sym (finish_led nodes two false line)
-  course_same commands.Abort nodes line up so = finish_led nodes one true line ∙ ap is_led_to_end (lead_same commands.Abort nodes refl line so (Some NotBegun)) ∙ sym (finish_led nodes two true line)
-  course_same (commands.Start node) nodes line up so = start_led node nodes one line ∙ ap is_led_to_end (lead_same (commands.Start node) nodes refl line so (Some NotBegun)) ∙ sym (start_led node nodes two line)
-  course_same commands.Backup nodes line up so = backup_led nodes one line ∙ ap is_led_to_end (lead_same commands.Backup nodes refl line so (Some NotBegun)) ∙ sym (backup_led nodes two line)
-  course_same (commands.Orphans key) nodes line up so =
+  pub course_same : (command : Command) (nodes : List ℕ) (line : List Turn) → (IsTrue (is_collect command) → kept ≡ kept') → shut the_office 0 ≡ false → IsTrue (within line) → follows_course command nodes one line ≡ follows_course command nodes two line
+  course_same (commands.Begin uuid node) nodes line same up so = begin_led uuid node nodes one line ∙ ap is_led_to_end (lead_same (commands.Begin uuid node) nodes refl line so (Some NotBegun)) ∙ sym (begin_led uuid node nodes two line)
+  course_same (commands.Forget uuid node) nodes line same up so = forget_led uuid node nodes one line ∙ ap is_led_to_end (lead_same (commands.Forget uuid node) nodes refl line so (Some NotBegun)) ∙ sym (forget_led uuid node nodes two line)
+  course_same (commands.Get key) nodes line same up so = get_led key nodes one line ∙ ap is_led_to_end (lead_same (commands.Get key) nodes refl line so (Some NotBegun)) ∙ sym (get_led key nodes two line)
+  course_same commands.Commit nodes line same up so = finish_led nodes one false line ∙ ap is_led_to_end (lead_same commands.Commit nodes refl line so (Some NotBegun)) ∙ sym (finish_led nodes two false line)
+  course_same commands.Abort nodes line same up so = finish_led nodes one true line ∙ ap is_led_to_end (lead_same commands.Abort nodes refl line so (Some NotBegun)) ∙ sym (finish_led nodes two true line)
+  course_same (commands.Start node) nodes line same up so = start_led node nodes one line ∙ ap is_led_to_end (lead_same (commands.Start node) nodes refl line so (Some NotBegun)) ∙ sym (start_led node nodes two line)
+  course_same commands.Backup nodes line same up so = backup_led nodes one line ∙ ap is_led_to_end (lead_same commands.Backup nodes refl line so (Some NotBegun)) ∙ sym (backup_led nodes two line)
+  course_same (commands.Orphans key) nodes line same up so =
       orphans_led key nodes one up line ∙ ap is_led_to_end (lead_same (commands.Orphans key) nodes refl line so (Some NotBegun)) ∙ sym (orphans_led key nodes two (sym (same_shut the_office 0 (omega arith)) ∙ up) line)
-  course_same commands.Collect nodes line up so = collect_same nodes line so
-  course_same command nodes line up so = refl
+  course_same commands.Collect nodes line same up so = collect_same nodes line (same refl) so
+  course_same command nodes line same up so = refl
 
   -- ---- the positions
 
   -- one turn more of a line whose positions aren't told apart
-  judged_same : (command : Command) (nodes : List ℕ) (made : List Turn) (turn : Turn) → shut the_office 0 ≡ false → IsTrue (within (made ++ turn ∷ [])) → goes_along command nodes one made turn ≡ goes_along command nodes two made turn
-  judged_same command nodes made turn up so = ap (λ (b : Bool). if not (is_some (answer_in turn)) then Some (Along (made ++ turn ∷ [])) else if_so b IsOver) (course_same command nodes (made ++ turn ∷ []) up so)
+  judged_same : (command : Command) (nodes : List ℕ) (made : List Turn) (turn : Turn) → (IsTrue (is_collect command) → kept ≡ kept') → shut the_office 0 ≡ false → IsTrue (within (made ++ turn ∷ [])) → goes_along command nodes one made turn ≡ goes_along command nodes two made turn
+  judged_same command nodes made turn same up so = ap (λ (b : Bool). if not (is_some (answer_in turn)) then Some (Along (made ++ turn ∷ [])) else if_so b IsOver) (course_same command nodes (made ++ turn ∷ []) same up so)
 
   along_step : (command : Command) (nodes : List ℕ) (ends : Ends) → IsTrue (is_along command) → (position : Progress) (turn : Turn) → advance command nodes ends position turn ≡ goes_along command nodes ends (made_along position) turn
   along_step (commands.Put key value) nodes ends is NotBegun turn = refl
@@ -228,14 +236,14 @@ module _ (reach : ℕ) (left : ℕ → NodeState → Bool) (kept : ℕ → Commi
   joined : (made : List Turn) (turn : Turn) → IsTrue (within made) → IsTrue (is_within reach turn) → IsTrue (within (made ++ turn ∷ []))
   joined made turn so is = list_all-append (is_within reach) made (turn ∷ []) ∙ and_from _ _ so (and_from _ _ is refl)
 
-  along_same : (command : Command) (nodes : List ℕ) → IsTrue (is_along command) → shut the_office 0 ≡ false → (line : List Turn) → IsTrue (within line) → (position : Progress) → IsTrue (within (made_along position))
+  along_same : (command : Command) (nodes : List ℕ) → (IsTrue (is_collect command) → kept ≡ kept') → IsTrue (is_along command) → shut the_office 0 ≡ false → (line : List Turn) → IsTrue (within line) → (position : Progress) → IsTrue (within (made_along position))
       → fold (advanced (advance command nodes one)) (Some position) line ≡ fold (advanced (advance command nodes two)) (Some position) line
-  along_same command nodes is up [] so position made = refl
-  along_same command nodes is up (turn ∷ line) so position made =
+  along_same command nodes same is up [] so position made = refl
+  along_same command nodes same is up (turn ∷ line) so position made =
       let parts = and_parts (is_within reach turn) (within line) so in
       let together = joined (made_along position) turn made parts.0 in
-      ap (λ (p : Option Progress). fold (advanced (advance command nodes one)) p line) (along_step command nodes one is position turn ∙ judged_same command nodes (made_along position) turn up together)
-      ∙ behind (is_some (answer_in turn)) (follows_course command nodes two (made_along position ++ turn ∷ [])) (along_same command nodes is up line parts.1 (Along (made_along position ++ turn ∷ [])) together) (along_same command nodes is up line parts.1 IsOver refl)
+      ap (λ (p : Option Progress). fold (advanced (advance command nodes one)) p line) (along_step command nodes one is position turn ∙ judged_same command nodes (made_along position) turn same up together)
+      ∙ behind (is_some (answer_in turn)) (follows_course command nodes two (made_along position ++ turn ∷ [])) (along_same command nodes same is up line parts.1 (Along (made_along position ++ turn ∷ [])) together) (along_same command nodes same is up line parts.1 IsOver refl)
       ∙ sym (ap (λ (p : Option Progress). fold (advanced (advance command nodes two)) p line) (along_step command nodes two is position turn))
     where
       nowhere : (step : Progress → Turn → Option Progress) (rest : List Turn) → fold (advanced step) None rest ≡ None
@@ -250,28 +258,25 @@ module _ (reach : ℕ) (left : ℕ → NodeState → Bool) (kept : ℕ → Commi
       behind true true on over = over
       behind true false on over = nowhere (advance command nodes one) line ∙ sym (nowhere (advance command nodes two) line)
 
-  pub position_same : (command : Command) (nodes : List ℕ) (line : List Turn) → shut the_office 0 ≡ false → IsTrue (within line) → leads_to command nodes one line ≡ leads_to command nodes two line
-  position_same command nodes line up so = by_kind (is_along command) refl
+  pub position_same : (command : Command) (nodes : List ℕ) (line : List Turn) → (IsTrue (is_collect command) → kept ≡ kept') → shut the_office 0 ≡ false → IsTrue (within line) → leads_to command nodes one line ≡ leads_to command nodes two line
+  position_same command nodes line same up so = by_kind (is_along command) refl
     where
       by_kind : (kind : Bool) → is_along command ≡ kind → leads_to command nodes one line ≡ leads_to command nodes two line
-      by_kind true is = along_same command nodes is up line so NotBegun refl
+      by_kind true is = along_same command nodes same is up line so NotBegun refl
       by_kind false is = lead_same command nodes (ap (λ (b : Bool). not b) is) line so (Some NotBegun)
 
 -- ---- any two ends that say the same
 
--- ends with the tests of others in place of their own
-abbrev with_tests : Ends → (ℕ → NodeState → Bool) → (ℕ → Commit → List Turn → List Turn → Bool) → Ends
-with_tests ends left kept = record { seen = ends.seen; is_shut_out = ends.is_shut_out; is_left = left; is_kept = kept }
+-- ends with the test of others for what a node has left in place of their own
+abbrev with_left : Ends → (ℕ → NodeState → Bool) → Ends
+with_left ends left = record { seen = ends.seen; is_shut_out = ends.is_shut_out; is_left = left; is_kept = ends.is_kept }
 
-own_tests : (ends other : Ends) → ends.is_left ≡ other.is_left → ends.is_kept ≡ other.is_kept → ends ≡ with_tests ends other.is_left other.is_kept
-own_tests ends other left kept = ap (λ (l : ℕ → NodeState → Bool). with_tests ends l ends.is_kept) left ∙ ap (λ (k : ℕ → Commit → List Turn → List Turn → Bool). with_tests ends other.is_left k) kept
+pub positions_over : (command : Command) (nodes : List ℕ) (reach : ℕ) (ends other : Ends) (line : List Turn) → SameWithin reach ends other → SameKept command ends other → ends.is_shut_out the_office 0 ≡ false → IsTrue (list_all (is_within reach) line) → leads_to command nodes ends line ≡ leads_to command nodes other line
+positions_over command nodes reach ends other line same kept up so =
+    ap (λ (l : ℕ → NodeState → Bool). leads_to command nodes (with_left ends l) line) same.left
+    ∙ position_same reach other.is_left ends.is_kept other.is_kept ends.seen other.seen ends.is_shut_out other.is_shut_out same.seen same.shut_out command nodes line kept up so
 
-pub positions_over : (command : Command) (nodes : List ℕ) (reach : ℕ) (ends other : Ends) (line : List Turn) → SameWithin reach ends other → ends.is_shut_out the_office 0 ≡ false → IsTrue (list_all (is_within reach) line) → leads_to command nodes ends line ≡ leads_to command nodes other line
-positions_over command nodes reach ends other line same up so =
-    ap (λ (e : Ends). leads_to command nodes e line) (own_tests ends other same.left same.kept)
-    ∙ position_same reach other.is_left other.is_kept ends.seen other.seen ends.is_shut_out other.is_shut_out same.seen same.shut_out command nodes line up so
-
-pub courses_over : (command : Command) (nodes : List ℕ) (reach : ℕ) (ends other : Ends) (line : List Turn) → SameWithin reach ends other → ends.is_shut_out the_office 0 ≡ false → IsTrue (list_all (is_within reach) line) → follows_course command nodes ends line ≡ follows_course command nodes other line
-courses_over command nodes reach ends other line same up so =
-    ap (λ (e : Ends). follows_course command nodes e line) (own_tests ends other same.left same.kept)
-    ∙ course_same reach other.is_left other.is_kept ends.seen other.seen ends.is_shut_out other.is_shut_out same.seen same.shut_out command nodes line up so
+pub courses_over : (command : Command) (nodes : List ℕ) (reach : ℕ) (ends other : Ends) (line : List Turn) → SameWithin reach ends other → SameKept command ends other → ends.is_shut_out the_office 0 ≡ false → IsTrue (list_all (is_within reach) line) → follows_course command nodes ends line ≡ follows_course command nodes other line
+courses_over command nodes reach ends other line same kept up so =
+    ap (λ (l : ℕ → NodeState → Bool). follows_course command nodes (with_left ends l) line) same.left
+    ∙ course_same reach other.is_left ends.is_kept other.is_kept ends.seen other.seen ends.is_shut_out other.is_shut_out same.seen same.shut_out command nodes line kept up so

@@ -27,12 +27,14 @@ ends_same view more = record {
   seen = λ place low. sym (take-append-le place view.seen more low);
   shut_out = λ who front low. ap (λ (h : List DoorEntry). is_fenced who h) (sym (take-append-le front view.seen more low));
   left = refl;
-  kept = refl;
 }
+
+pub kept_same : (view : LineView) (more : List DoorEntry) → (ends_of view).is_kept ≡ (ends_of (with_more view more)).is_kept
+kept_same view more = refl
 
 -- ---- lists
 
-kept_by : {A : Type 0} (keep test : A → Bool) (xs : List A) → IsTrue (list_all test xs) → IsTrue (list_all test (filter keep xs))
+pub kept_by : {A : Type 0} (keep test : A → Bool) (xs : List A) → IsTrue (list_all test xs) → IsTrue (list_all test (filter keep xs))
 kept_by keep test [] so = refl
 kept_by keep test (x ∷ xs) so = (let parts = and_parts (test x) (list_all test xs) so in cases (keep x) parts.0 (kept_by keep test xs parts.1))
   where
@@ -40,7 +42,7 @@ kept_by keep test (x ∷ xs) so = (let parts = and_parts (test x) (list_all test
     cases true one rest = and_from _ _ one rest
     cases false one rest = rest
 
-kept_so : {A : Type 0} (test : A → Bool) (xs : List A) → IsTrue (list_all test (filter test xs))
+pub kept_so : {A : Type 0} (test : A → Bool) (xs : List A) → IsTrue (list_all test (filter test xs))
 kept_so test [] = refl
 kept_so test (x ∷ xs) = cases (test x) refl (kept_so test xs)
   where
@@ -49,11 +51,11 @@ kept_so test (x ∷ xs) = cases (test x) refl (kept_so test xs)
     cases false one rest = rest
 
 -- what is so of what is there
-abbrev if_there : (Line → Bool) → Option Line → Bool
+abbrev pub if_there : (Line → Bool) → Option Line → Bool
 if_there test None = true
 if_there test (Some line) = test line
 
-last_so : (test : Line → Bool) (xs : List Line) (before : Option Line) → IsTrue (if_there test before) → IsTrue (list_all test xs) → IsTrue (if_there test (last_or before xs))
+pub last_so : (test : Line → Bool) (xs : List Line) (before : Option Line) → IsTrue (if_there test before) → IsTrue (list_all test xs) → IsTrue (if_there test (last_or before xs))
 last_so test [] before so all = so
 last_so test (x ∷ xs) before so all = (let parts = and_parts (test x) (list_all test xs) all in last_so test xs (Some x) parts.0 parts.1)
 

@@ -1,11 +1,13 @@
 -- What a line has seen of the door's history, and a history that grows behind that.
-use Rattle.std.specs.Prelude.{Bool, List, nat_le, nat_lt, not, take, ℕ, ◌&&◌, ◌++◌, ◌==◌, ◌≡◌, ◌≤◌}
+use Rattle.std.specs.Prelude.{Bool, IsTrue, List, nat_le, nat_lt, not, take, ℕ, ◌&&◌, ◌++◌, ◌==◌, ◌≡◌, ◌≤◌}
 use Rattle.aft_model.specs.declared.door.DoorEntry.{DoorEntry}
+use Rattle.aft_model.specs.declared.script.Command.{Command}
 use Rattle.aft_model.specs.declared.script.Line.{Line}
 use Rattle.aft_model.specs.Membership.{Incarnation}
 use Rattle.aft_model.specs.Opening.{opening}
 use Rattle.aft_model.specs.ScanRun.{same_line}
 use Rattle.aft_lines.specs.Asked.{Ran}
+use Rattle.aft_lines.specs.CausesRounds.{is_collect}
 use Rattle.aft_lines.specs.CourseWords.{Ends}
 use Rattle.aft_lines.specs.LineView.{LineView}
 use Rattle.aft_lines.specs.Turns.{AtDoor, AtNode, AtOffice, Turn}
@@ -21,7 +23,10 @@ pub record SameWithin (reach : ℕ) (ends other : Ends) : Type 0 where
   pub seen : (place : ℕ) → place ≤ reach → take place ends.seen ≡ take place other.seen
   pub shut_out : (who : Incarnation) (front : ℕ) → front ≤ reach → ends.is_shut_out who front ≡ other.is_shut_out who front
   pub left : ends.is_left ≡ other.is_left
-  pub kept : ends.is_kept ≡ other.is_kept
+
+-- and of a collection, which alone asks it, the same of what a node need not have given up
+abbrev pub SameKept : Command → Ends → Ends → Type 0
+SameKept command ends other = IsTrue (is_collect command) → ends.is_kept ≡ other.is_kept
 
 -- a line whose door's history has grown
 abbrev pub with_more : LineView → List DoorEntry → LineView

@@ -14,21 +14,22 @@ ghost use Rattle.aft_lines.specs.LineCourse.{follows_course};
 ghost use Rattle.aft_lines.specs.LineView.{LineView, ends_of};
 ghost use Rattle.aft_lines.specs.Turns.{Turn, end_front, turns};
 ghost use Rattle.aft_lines.specs.Views.{view_of};
-ghost use Rattle.law_grows.specs.Reach.{SameWithin, comes_behind, grown, is_within, with_more};
+ghost use Rattle.law_grows.specs.Reach.{SameKept, SameWithin, comes_behind, grown, is_within, with_more};
 
-/// Turns lead to the same position over two ends that say the same of what they have seen, wherever the office isn't shut out of the door, as it never is.
+/// Turns lead to the same position over two ends that say the same of what they have seen, and of a collection of what nodes keep, wherever the office isn't shut out of the door, as it never is.
 pub fn positions_stay()
-    ensures { (command : Command) (nodes : List ℕ) (reach : ℕ) (ends other : Ends) (line : List Turn) → SameWithin reach ends other → ends.is_shut_out the_office 0 ≡ false → IsTrue (list_all (is_within reach) line) → leads_to command nodes ends line ≡ leads_to command nodes other line }
+    ensures { (command : Command) (nodes : List ℕ) (reach : ℕ) (ends other : Ends) (line : List Turn) → SameWithin reach ends other → SameKept command ends other → ends.is_shut_out the_office 0 ≡ false → IsTrue (list_all (is_within reach) line) → leads_to command nodes ends line ≡ leads_to command nodes other line }
 {}
 
 /// And they are a line's course over both, or over neither.
 pub fn courses_stay()
-    ensures { (command : Command) (nodes : List ℕ) (reach : ℕ) (ends other : Ends) (line : List Turn) → SameWithin reach ends other → ends.is_shut_out the_office 0 ≡ false → IsTrue (list_all (is_within reach) line) → follows_course command nodes ends line ≡ follows_course command nodes other line }
+    ensures { (command : Command) (nodes : List ℕ) (reach : ℕ) (ends other : Ends) (line : List Turn) → SameWithin reach ends other → SameKept command ends other → ends.is_shut_out the_office 0 ≡ false → IsTrue (list_all (is_within reach) line) → follows_course command nodes ends line ≡ follows_course command nodes other line }
 {}
 
 /// The ends of a line say the same of what it has seen when the door's history grows behind that.
 pub fn ends_stay()
-    ensures { (view : LineView) (more : List DoorEntry) → SameWithin (length view.seen) (ends_of view) (ends_of (with_more view more)) }
+    ensures seen { (view : LineView) (more : List DoorEntry) → SameWithin (length view.seen) (ends_of view) (ends_of (with_more view more)) }
+    ensures kept { (view : LineView) (more : List DoorEntry) → (ends_of view).is_kept ≡ (ends_of (with_more view more)).is_kept }
 {}
 
 /// The view of a line, on which its course and each of its causes rest, stays when the door's history grows behind what the

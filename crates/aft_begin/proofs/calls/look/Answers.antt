@@ -7,6 +7,7 @@ use Rattle.aft_keeper.specs.declared.keeper.KeeperCall.TheVariants.{Get}
 use Rattle.aft_model.specs.declared.caller.Caller.{Caller}
 use Rattle.aft_model.specs.declared.reply.Reply.{Reply}
 use Rattle.aft_records.specs.Names.{name_text}
+use Rattle.aft_begin.specs.declared.looked.Looked.TheVariants.{Stops}
 use Rattle.aft_begin.specs.Calls.{LooksSo}
 use Rattle.aft_begin.proofs.Asking.{absent, refused, shown}
 use Rattle.aft_begin.proofs.calls.look.Goals as goal
@@ -26,7 +27,7 @@ returns-in-Ok-Some-clause-looks g c may =
 
 pub returns-clause-looks : goal.returns-clause-looks
 returns-clause-looks g c may =
-    subst (λ (reply : Reply). LooksSo c.args.by c.args.attempt c.args.uuid c.args.sought c.args.door.now.history c.get-told.new.self.history (Some reply)) (sym c.refusal.ensures)
+    subst (λ (reply : Reply). LooksSo c.args.by c.args.attempt c.args.uuid c.args.sought c.args.door.now.history c.get-told.new.self.history (Stops reply)) (sym c.refusal.ensures)
     (refused c.args.by c.args.attempt c.args.uuid c.args.sought (name_text c.name-name.result) c.name-name.ensures c.args.door.now c.get-told.new.self c.in-Err.fault may
     (subst (λ (w : Caller). RefusedOrFailed {T = Option (List ℕ)} (if_fenced w c.args.door.now.history) (Err c.in-Err.fault)) c.caller.ensures
     (subst (λ (r : Result (Option (List ℕ)) DoorFault). RefusedOrFailed (if_fenced c.caller.result c.args.door.now.history) r) c.in-Err.is c.get-told.ensures.refused))

@@ -1,17 +1,39 @@
-use Rattle.aft_begin.proofs.Stands.{ends_so, gives_so, goes_so, sees_so, unanswered_so}
+use Rattle.std.proofs.Common.{◌≡◌, ◌≤◌, List, subst, ℕ}
+use Rattle.std.specs.Prelude.{IsTrue}
+use Rattle.aft_lines.specs.LineView.{LineView}
+use Rattle.aft_lines.specs.Lines.{attempt_of}
+use Rattle.aft_model.specs.declared.caller.Hold.{Hold}
+use Rattle.aft_model.specs.declared.door.DoorEntry.{DoorEntry}
+use Rattle.aft_model.specs.declared.script.Command.{Command}
+use Rattle.aft_begin.specs.declared.aim.Aim.TheVariants.{Begin}
+use Rattle.aft_begin.specs.Made.{Made}
+use Rattle.aft_begin.specs.View.{ClaimView, hold_of, left_of, next_of}
+use Rattle.aft_begin.proofs.OwnTurns.{asked_so}
+use Rattle.aft_turns.specs.Stands.{EndsRightly, GoesRightly, HasLooked, IsUnanswered, RanSo, SeesOwn, last_sees}
+use Rattle.aft_turns.specs.Trail.{Trail}
+use Rattle.aft_turns.specs.declared.turn.Where.TheVariants as places
 use Rattle.aft_begin.proofs.begin.Begin.so_far.Goals as goal
 
 pub returns-clause-goes : goal.returns-clause-goes
-returns-clause-goes c hold capacity trail view made ran looked = goes_so c.args.self.now.by c.args.self.now.node c.args.self.now.uuid hold capacity trail view ran c.args.self.now.stage made looked
+returns-clause-goes c =
+    asked_so c.self.inside.line c.args.self.now Begin c.self.view_is c.self.invariant
+    (λ (line : ClaimView) (command : Command). (hold : Hold) (capacity : ℕ) (trail : Trail) (view : LineView) → Made line trail → RanSo command hold capacity trail view → (next_of line ≡ places.Done → HasLooked trail view) → GoesRightly view)
+    c.so_far.ensures.goes
 
 pub returns-clause-unanswered : goal.returns-clause-unanswered
-returns-clause-unanswered c hold capacity trail view made ran left = unanswered_so c.args.self.now.by c.args.self.now.node c.args.self.now.uuid hold capacity trail view ran c.args.self.now.stage made left
+returns-clause-unanswered c =
+    asked_so c.self.inside.line c.args.self.now Begin c.self.view_is c.self.invariant
+    (λ (line : ClaimView) (command : Command). (hold : Hold) (capacity : ℕ) (trail : Trail) (view : LineView) → Made line trail → RanSo command hold capacity trail view → 1 ≤ left_of line → IsUnanswered view)
+    c.so_far.ensures.unanswered
 
 pub returns-clause-ends : goal.returns-clause-ends
-returns-clause-ends c hold capacity trail view made ran done looked = ends_so c.args.self.now.by c.args.self.now.node c.args.self.now.uuid hold capacity trail view ran c.args.self.now.stage made done looked
+returns-clause-ends c =
+    asked_so c.self.inside.line c.args.self.now Begin c.self.view_is c.self.invariant
+    (λ (line : ClaimView) (command : Command). (hold : Hold) (capacity : ℕ) (trail : Trail) (view : LineView) → Made line trail → RanSo command hold capacity trail view → next_of line ≡ places.Done → HasLooked trail view → EndsRightly view)
+    c.so_far.ensures.ends
 
 pub returns-clause-gives : goal.returns-clause-gives
-returns-clause-gives c trail made done = gives_so c.args.self.now.by c.args.self.now.node c.args.self.now.uuid c.args.self.now.stage trail made done
+returns-clause-gives c = subst (λ (line : ClaimView). (trail : Trail) → Made line trail → next_of line ≡ places.Done → attempt_of trail.turns ≡ (hold_of line).attempt) c.self.view_is c.so_far.ensures.gives
 
 pub returns-clause-sees : goal.returns-clause-sees
-returns-clause-sees c trail seen made own = sees_so c.args.self.now.by c.args.self.now.node c.args.self.now.uuid c.args.self.now.stage trail seen made own
+returns-clause-sees c = subst (λ (line : ClaimView). (trail : Trail) (seen : List DoorEntry) → Made line trail → SeesOwn line.by trail.turns seen → IsTrue (last_sees seen trail.turns)) c.self.view_is c.so_far.ensures.sees

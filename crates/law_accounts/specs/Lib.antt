@@ -1,0 +1,5 @@
+pub mod Account
+pub mod Adding
+pub mod Turned
+pub mod Next
+pub mod Opened

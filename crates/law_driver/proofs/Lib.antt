@@ -1,0 +1,9 @@
+pub mod Seeing
+pub mod Closing
+pub mod Rights
+pub mod Along
+pub mod NeverStops
+pub mod Node
+pub mod Door
+pub mod Begin
+pub mod Others
