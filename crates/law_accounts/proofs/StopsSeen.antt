@@ -121,7 +121,7 @@ there_serves node capacity history a legal there = by_state (node_state history)
     by_state state is = absurd (nothing_there (ap (λ (state : NodeState). part_in (service_in state)) is))
 
 -- the history of a number is that of the node
-same_history : (number first : ℕ) (histories : List (List NodeEntry)) → numbered_in number first histories ≡ history_in number first histories
+pub same_history : (number first : ℕ) (histories : List (List NodeEntry)) → numbered_in number first histories ≡ history_in number first histories
 same_history number first [] = refl
 same_history number first (history ∷ histories) = cases (eqb first number) refl (eqb number first) refl (same_history number (suc first) histories)
   where
