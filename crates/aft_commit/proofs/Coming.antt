@@ -46,6 +46,7 @@ module _ (clock : ℕ) (by : By) (hold : Hold) (a : Attempt) where
   pub come_so : (aborts : Bool) (position further : Progress) (trail : Trail) (turn : Turn) → HasCome clock by hold aborts a position trail → IsTrue (is_own_silent clock hold aborts turn) → LastSees by (trail.turns ++ turn ∷ []) → ((nodes : List ℕ) (ends : Ends) → advance (command_of aborts) nodes ends position turn ≡ Some further) → HasCome clock by hold aborts a further (behind trail turn)
   come_so aborts position further trail turn come own sees_so leads = record {
     held = come.held;
+    place = come.place;
     own = list_all-append (is_own_silent clock hold aborts) trail.turns (turn ∷ []) ∙ and_from _ _ come.own (and_from _ _ own refl);
     leads = λ nodes ends.
         fold-append (advanced (advance (command_of aborts) nodes ends)) (Some NotBegun) trail.turns (turn ∷ [])
@@ -58,4 +59,4 @@ module _ (clock : ℕ) (by : By) (hold : Hold) (a : Attempt) where
 
   -- a look leaves it where it is
   pub come_still : (aborts : Bool) (position : Progress) (trail : Trail) (old : List DoorEntry) → HasCome clock by hold aborts a position trail → HasCome clock by hold aborts a position (looking trail old)
-  come_still aborts position trail old come = record { held = come.held; own = come.own; leads = come.leads; sees = come.sees }
+  come_still aborts position trail old come = record { held = come.held; place = come.place; own = come.own; leads = come.leads; sees = come.sees }

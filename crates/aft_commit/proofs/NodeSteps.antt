@@ -88,6 +88,10 @@ module _ (clock : ℕ) (by : By) (hold : Hold) (a : Attempt) where
     sees = sees_so;
   }
 
+  -- the line's node is that of its attempt
+  its_node : {position : Progress} {aborts : Bool} (trail : Trail) → HasCome clock by hold aborts a position trail → (number : ℕ) → a.node ≡ number → IsTrue (hold.node == number)
+  its_node trail come number place = eq-eqb hold.node number (sym come.place ∙ place)
+
   -- the attempt is the one that is held
   its_own : {position : Progress} {aborts : Bool} (trail : Trail) → HasCome clock by hold aborts a position trail → IsTrue (is_held_attempt hold.attempt a)
   its_own trail come = subst (λ (o : Option Attempt). IsTrue (is_held_attempt o a)) (sym come.held) (same_itself a)
@@ -222,21 +226,21 @@ module _ (clock handed : ℕ) (by : By) (hold : Hold) (a : Attempt) (old new : N
   left_it : new ≡ answered handed by (down_reply old a.inc) old → new ≡ after_entry handed by acts.Nothing (Some down) old
   left_it made = made ∙ ap (λ (n : ℕ). answered handed by (replies.NodeDown n a.inc) old) (sym place)
 
-  own_nothing : (aborts : Bool) (reply : Reply) → IsTrue (is_own clock hold aborts (turn_with acts.Nothing (Some reply)))
-  own_nothing true reply = refl
-  own_nothing false reply = refl
+  own_nothing : (aborts : Bool) (reply : Reply) → IsTrue (hold.node == old.number) → IsTrue (is_own clock hold aborts (turn_with acts.Nothing (Some reply)))
+  own_nothing true reply at = and_from _ _ (and_from _ _ at refl) refl
+  own_nothing false reply at = and_from _ _ (and_from _ _ at refl) refl
 
-  own_doubt : (aborts : Bool) (reply : Reply) → IsTrue (is_held_attempt hold.attempt a) → IsTrue (is_own clock hold aborts (turn_with (acts.Doubt a) (Some reply)))
-  own_doubt true reply held = and_from _ _ (and_from _ _ refl held) refl
-  own_doubt false reply held = and_from _ _ (and_from _ _ refl held) refl
+  own_doubt : (aborts : Bool) (reply : Reply) → IsTrue (hold.node == old.number) → IsTrue (is_held_attempt hold.attempt a) → IsTrue (is_own clock hold aborts (turn_with (acts.Doubt a) (Some reply)))
+  own_doubt true reply at held = and_from _ _ (and_from _ _ at held) refl
+  own_doubt false reply at held = and_from _ _ (and_from _ _ at held) refl
 
-  own_end : (aborts : Bool) (reply : Reply) → IsTrue (is_held_attempt hold.attempt a) → IsTrue (is_own clock hold aborts (turn_with (acts.End a) (Some reply)))
-  own_end true reply held = and_from _ _ (and_from _ _ refl held) refl
-  own_end false reply held = and_from _ _ (and_from _ _ refl held) refl
+  own_end : (aborts : Bool) (reply : Reply) → IsTrue (hold.node == old.number) → IsTrue (is_held_attempt hold.attempt a) → IsTrue (is_own clock hold aborts (turn_with (acts.End a) (Some reply)))
+  own_end true reply at held = and_from _ _ (and_from _ _ at held) refl
+  own_end false reply at held = and_from _ _ (and_from _ _ at held) refl
 
-  own_stored : (aborts : Bool) (c : Commit) → IsTrue (is_held_attempt hold.attempt a) → IsTrue (is_own_silent clock hold aborts (turn_with (acts.Stored a c) None))
-  own_stored true c held = and_from _ _ (and_from _ _ (and_from _ _ refl held) refl) refl
-  own_stored false c held = and_from _ _ (and_from _ _ (and_from _ _ refl held) refl) refl
+  own_stored : (aborts : Bool) (c : Commit) → IsTrue (hold.node == old.number) → IsTrue (is_held_attempt hold.attempt a) → IsTrue (is_own_silent clock hold aborts (turn_with (acts.Stored a c) None))
+  own_stored true c at held = and_from _ _ (and_from _ _ (and_from _ _ at held) refl) refl
+  own_stored false c at held = and_from _ _ (and_from _ _ (and_from _ _ at held) refl) refl
 
   -- the last turn has seen what its ends know to be shut out
   seen_shut : (look : List DoorEntry) (turns : List Turn) (act : NodeAct) (answer : Option Reply) (ends : Ends) → FitEnds look (turns ++ turn_with act answer ∷ []) ends → IsTrue (is_fenced (caller_of a) look) → IsTrue (ends.is_shut_out (caller_of a) (max old.front handed))
@@ -263,7 +267,7 @@ module _ (clock handed : ℕ) (by : By) (hold : Hold) (a : Attempt) (old new : N
   -- it is left in doubt
   doubts_so : (aborts : Bool) (reply : Reply) (trail : Trail) → led_at clock by hold aborts (Doubts a reply) trail → HasEnded clock by hold aborts (behind trail (turn_with (acts.Doubt a) (Some reply)))
   doubts_so aborts reply trail (position, may, come) =
-      end_with clock by hold a aborts position trail (turn_with (acts.Doubt a) (Some reply)) come (own_doubt aborts reply (its_own clock by hold a trail come)) refl (asks_nothing trail.turns (acts.Doubt a) (Some reply) (λ seen. refl)) (λ nodes ends fit.
+      end_with clock by hold a aborts position trail (turn_with (acts.Doubt a) (Some reply)) come (own_doubt aborts reply (its_node clock by hold a trail come old.number place) (its_own clock by hold a trail come)) refl (asks_nothing trail.turns (acts.Doubt a) (Some reply) (λ seen. refl)) (λ nodes ends fit.
       let passes : (test : Option Reply → Bool) → IsTrue (test (Some reply)) → IsTrue (doubts a test (acts.Doubt a) (Some reply) || answers_down (acts.Doubt a) (Some reply) && ends.is_left a.inc (node_state old.history)) = λ test told. or_left _ _ (and_from _ _ (same_itself a) told) in
       let shut = seen_shut trail.look trail.turns (acts.Doubt a) (Some reply) ends fit in
       subst (λ (o : Option Progress). IsTrue (is_led_to_end o)) (sym (of_command ends a old.number old.history (entry_with (acts.Doubt a) (Some reply)) place trail.look reply passes shut (λ s. refl) aborts nodes position may))
@@ -272,7 +276,7 @@ module _ (clock handed : ℕ) (by : By) (hold : Hold) (a : Attempt) (old new : N
   -- or the node has left it
   doubts_down : (aborts : Bool) (reply : Reply) (trail : Trail) → IsTrue (has_left a.inc (node_state old.history)) → led_at clock by hold aborts (Doubts a reply) trail → HasEnded clock by hold aborts (behind trail (turn_with acts.Nothing (Some down)))
   doubts_down aborts reply trail left (position, may, come) =
-      end_with clock by hold a aborts position trail (turn_with acts.Nothing (Some down)) come (own_nothing aborts down) refl (asks_nothing trail.turns acts.Nothing (Some down) (λ seen. refl)) (λ nodes ends fit.
+      end_with clock by hold a aborts position trail (turn_with acts.Nothing (Some down)) come (own_nothing aborts down (its_node clock by hold a trail come old.number place)) refl (asks_nothing trail.turns acts.Nothing (Some down) (λ seen. refl)) (λ nodes ends fit.
       let passes : (test : Option Reply → Bool) → IsTrue (test (Some reply)) → IsTrue (doubts a test acts.Nothing (Some down) || answers_down acts.Nothing (Some down) && ends.is_left a.inc (node_state old.history)) = λ test told. or_right (doubts a test acts.Nothing (Some down)) (answers_down acts.Nothing (Some down) && ends.is_left a.inc (node_state old.history)) (and_from (answers_down acts.Nothing (Some down)) (ends.is_left a.inc (node_state old.history)) refl (fit.left a.inc old.history left)) in
       let shut = seen_shut trail.look trail.turns acts.Nothing (Some down) ends fit in
       subst (λ (o : Option Progress). IsTrue (is_led_to_end o)) (sym (of_command ends a old.number old.history (entry_with acts.Nothing (Some down)) place trail.look reply passes shut (λ s. refl) aborts nodes position may))
@@ -302,10 +306,10 @@ module _ (clock handed : ℕ) (by : By) (hold : Hold) (a : Attempt) (old new : N
   end_step aborts uuid outcome made may = by_test (is_doing (λ state. is_end state (Some (told_of outcome))) a old.history) refl made (or_cases (has_left a.inc (node_state old.history)) (is_doing (may_end_with uuid outcome) a old.history) may)
     where
       ended : (trail : Trail) → HasCome clock by hold aborts a (MustEnd a (ending_of outcome)) trail → LastSees by (trail.turns ++ turn_with (acts.End a) (Some (told_of outcome)) ∷ []) → HasEnded clock by hold aborts (behind trail (turn_with (acts.End a) (Some (told_of outcome))))
-      ended trail come sees_so = ends_so aborts outcome (acts.End a) (told_of outcome) trail come (own_end aborts (told_of outcome) (its_own clock by hold a trail come)) sees_so (λ ends left_so. or_left (same_attempt a a && tells_outcome (ending_of outcome) (Some (told_of outcome))) false (and_from (same_attempt a a) (tells_outcome (ending_of outcome) (Some (told_of outcome))) (same_itself a) (outcome_told outcome)))
+      ended trail come sees_so = ends_so aborts outcome (acts.End a) (told_of outcome) trail come (own_end aborts (told_of outcome) (its_node clock by hold a trail come old.number place) (its_own clock by hold a trail come)) sees_so (λ ends left_so. or_left (same_attempt a a && tells_outcome (ending_of outcome) (Some (told_of outcome))) false (and_from (same_attempt a a) (tells_outcome (ending_of outcome) (Some (told_of outcome))) (same_itself a) (outcome_told outcome)))
 
       went_down : IsTrue (has_left a.inc (node_state old.history)) → (trail : Trail) → HasCome clock by hold aborts a (MustEnd a (ending_of outcome)) trail → HasEnded clock by hold aborts (behind trail (turn_with acts.Nothing (Some down)))
-      went_down left trail come = ends_so aborts outcome acts.Nothing down trail come (own_nothing aborts down) (asks_nothing trail.turns acts.Nothing (Some down) (λ seen. refl)) (λ ends left_so. or_right (takes_away a (tells_outcome (ending_of outcome)) acts.Nothing (Some down)) (answers_down acts.Nothing (Some down) && ends.is_left a.inc (node_state old.history)) (and_from (answers_down acts.Nothing (Some down)) (ends.is_left a.inc (node_state old.history)) refl (left_so a.inc old.history left)))
+      went_down left trail come = ends_so aborts outcome acts.Nothing down trail come (own_nothing aborts down (its_node clock by hold a trail come old.number place)) (asks_nothing trail.turns acts.Nothing (Some down) (λ seen. refl)) (λ ends left_so. or_right (takes_away a (tells_outcome (ending_of outcome)) acts.Nothing (Some down)) (answers_down acts.Nothing (Some down) && ends.is_left a.inc (node_state old.history)) (and_from (answers_down acts.Nothing (Some down)) (ends.is_left a.inc (node_state old.history)) refl (left_so a.inc old.history left)))
 
       -- an end that aborts a fixed commit has seen that its record isn't there
       aborts_seen : (made : List Turn) → ToldEnd by hold aborts uuid outcome made → IsTrue (may_end_with uuid outcome (attempt_state a (part old.history))) → LastSees by (made ++ turn_with (acts.End a) (Some (told_of outcome)) ∷ [])
@@ -331,7 +335,7 @@ module _ (clock handed : ℕ) (by : By) (hold : Hold) (a : Attempt) (old new : N
     Some down,
     made,
     λ trail stood. (
-      end_with clock by hold a aborts (MustLeave stood.0.0 a stood.0.1) trail (turn_with acts.Nothing (Some down)) stood.0.2 (own_nothing aborts down) refl (asks_nothing trail.turns acts.Nothing (Some down) (λ seen. refl)) (λ nodes ends fit. led aborts nodes ends stood.0.0 stood.0.1 (seen_shut trail.look trail.turns acts.Nothing (Some down) ends fit stood.0.3)),
+      end_with clock by hold a aborts (MustLeave stood.0.0 a stood.0.1) trail (turn_with acts.Nothing (Some down)) stood.0.2 (own_nothing aborts down (its_node clock by hold a trail stood.0.2 old.number place)) refl (asks_nothing trail.turns acts.Nothing (Some down) (λ seen. refl)) (λ nodes ends fit. led aborts nodes ends stood.0.0 stood.0.1 (seen_shut trail.look trail.turns acts.Nothing (Some down) ends fit stood.0.3)),
       inr (closed_later aborts trail IsDown stood.0.2.held (stood.1, inr stood.0.3)),
     ),
   )
@@ -359,7 +363,7 @@ module _ (clock handed : ℕ) (by : By) (hold : Hold) (a : Attempt) (old new : N
     (
       IsNodeStored (storing_with a r writes),
       (r, writes, refl, refl, refl),
-      come_on clock by hold a aborts (IsRecorded (storing_with a r writes)) (IsNodeStored (storing_with a r writes)) trail (turn_with (acts.Stored a r.commit) None) come (own_stored aborts r.commit (its_own clock by hold a trail come)) seen_stored (λ nodes ends. (it ends, it ends)),
+      come_on clock by hold a aborts (IsRecorded (storing_with a r writes)) (IsNodeStored (storing_with a r writes)) trail (turn_with (acts.Stored a r.commit) None) come (own_stored aborts r.commit (its_node clock by hold a trail come old.number place) (its_own clock by hold a trail come)) seen_stored (λ nodes ends. (it ends, it ends)),
     ),
     (r.commit, refl, stores_on by hold aborts r.commit trail.turns (turn_with (acts.Stored a r.commit) None) stores, stored_still r.commit trail.turns old.number old.history (entry_with (acts.Stored a r.commit) None) stored),
   )

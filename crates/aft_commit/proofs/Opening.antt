@@ -38,7 +38,7 @@ use Rattle.aft_node.specs.declared.goes.StartGo.TheVariants as starts
 use Rattle.aft_commit.specs.declared.outcome.Outcome.TheVariants.{Left}
 use Rattle.aft_commit.specs.declared.stage.Stage.{Stage}
 use Rattle.aft_commit.specs.declared.stage.Stage.TheVariants.{Begins, Ended, Releases, Settles, Stores}
-use Rattle.aft_commit.specs.Made.{HasCome, HasEnded, command_of, is_own_silent, made_at}
+use Rattle.aft_commit.specs.Made.{HasCome, HasEnded, command_of, is_own, is_own_silent, made_at}
 use Rattle.aft_commit.specs.Told.{AnswersAtOnce, EndedAtOnce, HasBegun, IsQuiet, IsToLeave, IsToStore, may_leave_with}
 use Rattle.aft_commit.specs.View.{FitsAt, opened_stage}
 use Rattle.aft_commit.proofs.Found.{doubted_so, fixed_settled, fixed_started, passed_so, ready_so}
@@ -61,7 +61,7 @@ over_so : (attempt : Option Attempt) (aborts : Bool) → opened_stage starts.Ans
 over_so None aborts = refl
 over_so (Some a) aborts = refl
 
-module _ (now handed : ℕ) (by : By) (hold : Hold) (old new : NodeView) (legal : LegalNode old.number old.capacity old.history) (here : ForSome hold.attempt (λ a. a.node ≡ old.number)) where
+module _ (now handed : ℕ) (by : By) (hold : Hold) (old new : NodeView) (legal : LegalNode old.number old.capacity old.history) (place : hold.node ≡ old.number) (here : ForSome hold.attempt (λ a. a.node ≡ old.number)) where
   abbrev pub OpenStep : Bool → Stage → Type 0
   OpenStep aborts stage = StepsAtNode by handed (made_at now by hold aborts Begins) (made_at now by hold aborts stage) old new
 
@@ -71,9 +71,17 @@ module _ (now handed : ℕ) (by : By) (hold : Hold) (old new : NodeView) (legal 
   abbrev turn_with : NodeAct → Option Reply → Turn
   turn_with act answer = AtNode old.number old.history (entry_with act answer)
 
+  -- a turn of it stands at the line's node
+  stands_here : IsTrue (hold.node == old.number)
+  stands_here = eq-eqb hold.node old.number place
+
+  own_nothing : (aborts : Bool) (reply : Reply) → IsTrue (is_own now hold aborts (turn_with acts.Nothing (Some reply)))
+  own_nothing true reply = and_from _ _ (and_from _ _ stands_here refl) refl
+  own_nothing false reply = and_from _ _ (and_from _ _ stands_here refl) refl
+
   once : (aborts : Bool) (reply : Reply) → HasEnded now by hold aborts (behind no_trail (turn_with acts.Nothing (Some reply)))
-  once true reply = record { since = []; last = turn_with acts.Nothing (Some reply); turns = refl; own = refl; last_own = refl; answers = refl; leads = λ nodes ends fit. refl; sees = λ seen own. refl }
-  once false reply = record { since = []; last = turn_with acts.Nothing (Some reply); turns = refl; own = refl; last_own = refl; answers = refl; leads = λ nodes ends fit. refl; sees = λ seen own. refl }
+  once true reply = record { since = []; last = turn_with acts.Nothing (Some reply); turns = refl; own = refl; last_own = own_nothing true reply; answers = refl; leads = λ nodes ends fit. refl; sees = λ seen own. refl }
+  once false reply = record { since = []; last = turn_with acts.Nothing (Some reply); turns = refl; own = refl; last_own = own_nothing false reply; answers = refl; leads = λ nodes ends fit. refl; sees = λ seen own. refl }
 
   -- it was answered at once, for a reason
   answered_once : (aborts : Bool) (reply : Reply) → AnswersAtOnce now hold aborts old reply → new ≡ answered handed by reply old → OpenStep aborts Ended
@@ -96,6 +104,7 @@ module _ (now handed : ℕ) (by : By) (hold : Hold) (old new : NodeView) (legal 
     first_come : (aborts : Bool) (position : Progress) (act : NodeAct) → IsTrue (is_own_silent now hold aborts (turn_with act None)) → ((seen : List DoorEntry) → IsTrue (has_seen old.number seen by old.history act None)) → ((nodes : List ℕ) (ends : Ends) → advance (command_of aborts) nodes ends NotBegun (turn_with act None) ≡ Some position) → HasCome now by hold aborts a position (behind no_trail (turn_with act None))
     first_come aborts position act own asks leads = record {
       held = held;
+      place = here a held ∙ sym place;
       own = and_from _ _ own refl;
       leads = leads;
       sees = λ seen none. asks seen;
@@ -110,15 +119,15 @@ module _ (now handed : ℕ) (by : By) (hold : Hold) (old new : NodeView) (legal 
     of_held P holds = subst P (sym held) holds
 
     own_leave : (aborts : Bool) → IsTrue (is_own_silent now hold aborts (turn_with (acts.Leave a) None))
-    own_leave true = and_from _ _ (and_from _ _ (and_from _ _ refl its_own) refl) refl
-    own_leave false = and_from _ _ (and_from _ _ (and_from _ _ refl its_own) refl) refl
+    own_leave true = and_from _ _ (and_from _ _ (and_from _ _ stands_here its_own) refl) refl
+    own_leave false = and_from _ _ (and_from _ _ (and_from _ _ stands_here its_own) refl) refl
 
     own_settle : (aborts : Bool) → IsTrue (is_own_silent now hold aborts (turn_with (acts.Settle a) None))
-    own_settle true = and_from _ _ (and_from _ _ (and_from _ _ refl its_own) refl) refl
-    own_settle false = and_from _ _ (and_from _ _ (and_from _ _ refl its_own) refl) refl
+    own_settle true = and_from _ _ (and_from _ _ (and_from _ _ stands_here its_own) refl) refl
+    own_settle false = and_from _ _ (and_from _ _ (and_from _ _ stands_here its_own) refl) refl
 
     own_start : (c : Commit) → IsTrue (is_own_silent now hold false (turn_with (acts.Start a now c) None))
-    own_start c = and_from _ _ (and_from _ _ (and_from _ _ refl its_own) (eq-eqb now now refl)) refl
+    own_start c = and_from _ _ (and_from _ _ (and_from _ _ stands_here its_own) (eq-eqb now now refl)) refl
 
     module _ (serve : IsTrue (serves a.inc (node_state old.history))) where
       left_step : (aborts : Bool) → IsTrue (is_running (doing old a)) → IsTrue (open_reads a (part old.history) == 0) → IsTrue (leaves aborts (buffer a (part old.history))) → new ≡ left handed by a old → OpenStep aborts (Releases a (uuid_of a (part old.history)) (Left aborts))

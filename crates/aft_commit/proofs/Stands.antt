@@ -1,8 +1,8 @@
 -- What stands of a commit or an abort by the turns that it has made.
-use Rattle.std.proofs.Common.{◌≡◌, ◌≤◌, ℕ, Bool, true, ◌&&◌, not, List, [], ◌∷◌, ◌++◌, refl, sym, ap, subst, ◌∙◌, ◌⊎◌, inl, inr, arith}
+use Rattle.std.proofs.Common.{◌≡◌, ◌≤◌, ℕ, Bool, ◌&&◌, List, [], ◌∷◌, ◌++◌, refl, sym, ap, subst, ◌∙◌, ◌⊎◌, inl, inr, arith}
 use Rattle.std.specs.Prelude.{IsTrue, None, Option, Some, is_some, take}
 use Rattle.std.specs.List.{list_all}
-use Rattle.std.proofs.lemmas.Bool.{and_from, and_parts, or_right}
+use Rattle.std.proofs.lemmas.Bool.{and_from, and_parts}
 use Rattle.std.proofs.lemmas.List.Folds.{list_all-append}
 use Rattle.std.proofs.lemmas.List.Sums.{fold-append}
 use Rattle.aft_model.specs.declared.caller.Attempt.{Attempt}
@@ -18,15 +18,14 @@ use Rattle.aft_model.specs.Replies.{is_silent}
 use Rattle.aft_model.proofs.Growth.{all_implied, given_grows}
 use Rattle.aft_lines.specs.Advance.{is_led_to_end}
 use Rattle.aft_lines.specs.Causes.{Caused}
-use Rattle.aft_lines.specs.CausesAttempts.{speaks_of_attempt}
-use Rattle.aft_lines.specs.LegalTrace.{is_clock_time, turn_of}
+use Rattle.aft_lines.specs.LegalTrace.{is_clock_time, named_node, stands_at, turn_words}
 use Rattle.aft_lines.specs.LineView.{LineView, ends_of, last_front}
 use Rattle.aft_lines.specs.Lines.{node_numbers}
 use Rattle.aft_lines.specs.Makes.{makes}
 use Rattle.aft_lines.specs.Progress.{Progress}
 use Rattle.aft_lines.specs.RunsSoFar.{position_of}
 use Rattle.aft_lines.specs.Turns.{Turn, answer_in, end_front, front_in}
-use Rattle.aft_turns.specs.Stands.{EndsRightly, GoesRightly, HasLooked, IsUnanswered, RanSo, SeesOwn, end_answer, last_sees}
+use Rattle.aft_turns.specs.Stands.{EndsRightly, GoesRightly, HasLooked, IsUnanswered, RanSo, SeesOwn, end_answer, is_right, last_sees}
 use Rattle.aft_turns.specs.Trail.{Trail}
 use Rattle.aft_turns.specs.declared.turn.Where.TheVariants as places
 use Rattle.aft_turns.proofs.Closed.{led_is_some}
@@ -62,13 +61,16 @@ module _ (clock : ℕ) (hold : Hold) (aborts : Bool) where
   own_silent turn is = (and_parts (is_own clock hold aborts turn) (is_silent (answer_in turn)) is).1
 
   own_reads : (turn : Turn) → IsTrue (is_own clock hold aborts turn) → IsTrue (turn_reads clock turn)
-  own_reads turn is = (and_parts (makes (command_of aborts) turn && turn_of hold.attempt turn) (turn_reads clock turn) is).1
+  own_reads turn is = (and_parts (is_right (command_of aborts) hold turn) (turn_reads clock turn) is).1
+
+  own_right : (turn : Turn) → IsTrue (is_own clock hold aborts turn) → IsTrue (is_right (command_of aborts) hold turn)
+  own_right turn is = (and_parts (is_right (command_of aborts) hold turn) (turn_reads clock turn) is).0
 
   own_makes : (turn : Turn) → IsTrue (is_own clock hold aborts turn) → IsTrue (makes (command_of aborts) turn)
-  own_makes turn is = (and_parts (makes (command_of aborts) turn) (turn_of hold.attempt turn) (and_parts (makes (command_of aborts) turn && turn_of hold.attempt turn) (turn_reads clock turn) is).0).0
-
-  own_speaks : (turn : Turn) → IsTrue (is_own clock hold aborts turn) → IsTrue (turn_of hold.attempt turn)
-  own_speaks turn is = (and_parts (makes (command_of aborts) turn) (turn_of hold.attempt turn) (and_parts (makes (command_of aborts) turn && turn_of hold.attempt turn) (turn_reads clock turn) is).0).1
+  own_makes turn is =
+      let placed = (and_parts (makes (command_of aborts) turn && turn_words (command_of aborts) turn && stands_at (named_node (command_of aborts) hold) turn) _ (own_right turn is)).0 in
+      let carries = (and_parts (makes (command_of aborts) turn && turn_words (command_of aborts) turn) _ placed).0 in
+      (and_parts (makes (command_of aborts) turn) _ carries).0
 
   -- each of its turns is its own
   abbrev AreOwn : List Turn → Type 0
@@ -106,8 +108,7 @@ module _ (clock : ℕ) (hold : Hold) (aborts : Bool) where
     goes_here leads own =
         by_turns GoesRightly trail.turns refl (record {
           leads = leads;
-          makes = makes_so trail.turns own;
-          speaks = or_right (not (speaks_of_attempt (command_of aborts))) _ (all_implied (is_own clock hold aborts) (turn_of hold.attempt) own_speaks trail.turns own);
+          right = all_implied (is_own clock hold aborts) (is_right (command_of aborts) hold) own_right trail.turns own;
         })
 
     module _ (by : By) where
@@ -202,7 +203,7 @@ module _ (clock : ℕ) (by : By) (hold : Hold) (aborts : Bool) where
     goes_so stage made looked = by_come (comes_so stage trail made)
       where
         by_come : Comes trail ⊎ ((stage ≡ Ended) × HasEnded clock by hold aborts trail × (EndedAtOnce clock by hold aborts trail ⊎ EndedLater by hold aborts trail)) → GoesRightly view
-        by_come (inl (Nothing none)) = by_turns clock hold aborts capacity trail view ran GoesRightly [] none (record { leads = refl; makes = refl; speaks = or_right (not (speaks_of_attempt (command_of aborts))) true refl })
+        by_come (inl (Nothing none)) = by_turns clock hold aborts capacity trail view ran GoesRightly [] none (record { leads = refl; right = refl })
         by_come (inl (GoesOn a position come)) = goes_come clock hold aborts capacity trail view ran by a position come
         by_come (inr (is, ended, told)) = goes_over clock hold aborts capacity trail view ran by (looked (ap (next_at hold.node) is)) ended told
 

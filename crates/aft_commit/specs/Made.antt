@@ -21,10 +21,8 @@ use Rattle.aft_model.specs.Replies.{is_silent}
 use Rattle.aft_lines.specs.Advance.{is_led_to_end, leads_to}
 use Rattle.aft_lines.specs.CommitCourse.{Storing}
 use Rattle.aft_lines.specs.CourseWords.{Ends, caller_of, tells_no_memory, tells_refused}
-use Rattle.aft_lines.specs.LegalTrace.{turn_of}
 use Rattle.aft_lines.specs.LineView.{has_left}
 use Rattle.aft_lines.specs.LineCourse.{answers_last}
-use Rattle.aft_lines.specs.Makes.{makes}
 use Rattle.aft_lines.specs.Progress.{EndsAborted, EndsCommitted, EndsLeft, FoundAborted, HasFailed, IsNodeStored, IsRecorded, IsStoring, MustDoubt, MustEnd, MustLeave, Progress, Settling}
 use Rattle.aft_lines.specs.Progress.{Outcome as Ending}
 use Rattle.aft_lines.specs.Turns.{AtNode, Turn, answer_in, end_front}
@@ -34,7 +32,7 @@ use Rattle.aft_commit.specs.declared.stage.Stage.{Stage}
 use Rattle.aft_commit.specs.declared.stage.Stage.TheVariants as stages
 use Rattle.aft_commit.specs.View.{FinishView}
 use Rattle.aft_commit.specs.Told.{entries_by, told_at}
-use Rattle.aft_turns.specs.Stands.{last_sees}
+use Rattle.aft_turns.specs.Stands.{is_right, last_sees}
 use Rattle.aft_turns.specs.Trail.{Trail, no_trail}
 
 -- ---- any turn
@@ -53,9 +51,9 @@ abbrev pub turn_reads : ℕ → Turn → Bool
 turn_reads clock (AtNode node before entry) = act_reads clock entry.act
 turn_reads clock turn = true
 
--- whether a turn is one of such a line: lines of its command make it, it speaks of the attempt that its client holds, and reads this clock
+-- whether a turn is one of such a line, of a client that holds this, and reads this clock
 abbrev pub is_own : ℕ → Hold → Bool → Turn → Bool
-is_own clock hold aborts turn = makes (command_of aborts) turn && turn_of hold.attempt turn && turn_reads clock turn
+is_own clock hold aborts turn = is_right (command_of aborts) hold turn && turn_reads clock turn
 
 -- whether it answers nothing besides
 abbrev pub is_own_silent : ℕ → Hold → Bool → Turn → Bool
@@ -71,9 +69,10 @@ LastSees by turns = (seen : List DoorEntry) → own_entries by seen ≡ entries_
 abbrev pub LeadTo : Bool → List Turn → Progress → Type 0
 LeadTo aborts turns position = (nodes : List ℕ) (ends : Ends) → leads_to (command_of aborts) nodes ends turns ≡ Some position
 
--- a line that has come to a position, of an attempt that its client holds: none of its turns has answered
+-- a line that has come to a position, of an attempt that its client holds, which is of the line's node: none of its turns has answered
 pub record HasCome (clock : ℕ) (by : By) (hold : Hold) (aborts : Bool) (a : Attempt) (position : Progress) (trail : Trail) : Type 0 where
   pub held : hold.attempt ≡ Some a
+  pub place : a.node ≡ hold.node
   pub own : IsTrue (list_all (is_own_silent clock hold aborts) trail.turns)
   pub leads : LeadTo aborts trail.turns position
   pub sees : LastSees by trail.turns

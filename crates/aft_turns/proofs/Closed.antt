@@ -1,5 +1,5 @@
 -- The end of a line by a turn at its attempt's node.
-use Rattle.std.proofs.Common.{◌≡◌, ℕ, Bool, true, false, ◌&&◌, ◌||◌, not, List, refl, sym, subst}
+use Rattle.std.proofs.Common.{◌≡◌, ℕ, Bool, true, false, ◌&&◌, ◌||◌, not, List, refl}
 use Rattle.std.specs.Prelude.{IsTrue, None, Option, Some, is_some, if◌then◌else◌, ◌==◌}
 use Rattle.std.proofs.lemmas.Bool.{eq-eqb, false≢true}
 use Rattle.aft_model.specs.declared.caller.Attempt.{Attempt}

@@ -1,5 +1,5 @@
 -- A line as it ran, with what is known of it put in.
-use Rattle.std.proofs.Common.{◌≡◌, ℕ, List, refl, sym, subst}
+use Rattle.std.proofs.Common.{◌≡◌, ℕ, List, sym, subst}
 use Rattle.aft_model.specs.declared.caller.Hold.{Hold}
 use Rattle.aft_model.specs.declared.script.Command.{Command}
 use Rattle.aft_lines.specs.LineView.{LineView}

@@ -102,7 +102,7 @@ module _ (who : Incarnation) where
 
 -- ---- a run
 
-picks_acts : (a : Attempt) (key : List ℕ) (id : TxnId) (act : NodeAct) → IsTrue (picks_fetch a key id act) → IsTrue (acts_on a act)
+pub picks_acts : (a : Attempt) (key : List ℕ) (id : TxnId) (act : NodeAct) → IsTrue (picks_fetch a key id act) → IsTrue (acts_on a act)
 picks_acts a key id (acts.Select b got (picked.Fetch at)) is = (and_parts (same_attempt a b) (bytes_eq key got) (and_parts (same_attempt a b && bytes_eq key got) _ is).0).0
 picks_acts a key id act is = absurd (false≢true is)
 
@@ -133,7 +133,7 @@ module _ (asked : Asked) (ran : Ran) (so : Goes asked ran) where
     abbrev its_ends : Ends
     its_ends = ends_of (view_of asked ran line)
 
-    fetch_there : (key : List ℕ) → line.order ≡ commands.Get key → (p : Progress) → position_of (view_of asked ran line) ≡ Some p → fetch_of (asking_of asked ran) (run_steps ran) (line_of line) ≡ fetch_at p
+    pub fetch_there : (key : List ℕ) → line.order ≡ commands.Get key → (p : Progress) → position_of (view_of asked ran line) ≡ Some p → fetch_of (asking_of asked ran) (run_steps ran) (line_of line) ≡ fetch_at p
     fetch_there key gets p is =
         ap (λ (o : Option Line). fetch_behind nodes (ends_in asked ran o) (own_steps (line_of line) (run_steps ran)) (command_in o)) (among_itself [] (lines asked) differ line listed)
         ∙ (ap (λ (c : Command). fetch_behind nodes its_ends (own_steps (line_of line) (run_steps ran)) (Some c)) gets

@@ -1,34 +1,25 @@
 -- An account is kept with each entry more.
-use Rattle.std.proofs.Common.{◌≡◌, ◌≤◌, ◌<◌, ℕ, suc, Bool, true, false, ◌&&◌, ◌||◌, not, List, [], ◌∷◌, ◌++◌, refl, sym, subst, ap, ◌∙◌, ◌⊎◌, inl, inr, eqb, arith}
-use Rattle.std.specs.Prelude.{IsFalse, IsTrue, None, Option, Some, is_some, length, map}
-use Rattle.std.specs.List.{fold, list_all}
-use Rattle.std.proofs.lemmas.Bool.{and_from, and_parts, cases_Bool, eq-eqb, eqb-false, eqb-true, not-true, or_right, true≢false}
-use Rattle.std.proofs.lemmas.List.Folds.{list_all-append}
+use Rattle.std.proofs.Common.{◌≡◌, ◌≤◌, ◌<◌, ℕ, false, ◌||◌, not, List, [], refl, sym, subst, ap, ◌∙◌, ◌⊎◌, inl, inr, eqb, arith}
+use Rattle.std.specs.Prelude.{IsFalse, IsTrue, Option, Some, is_some, length}
+use Rattle.std.specs.List.{list_all}
+use Rattle.std.proofs.lemmas.Bool.{and_from, and_parts, cases_Bool, eq-eqb, eqb-false, eqb-true, or_right, true≢false}
 use Rattle.aft_model.specs.declared.caller.By.{By}
-use Rattle.aft_model.specs.declared.door.DoorEntry.{DoorEntry}
-use Rattle.aft_model.specs.declared.mail.MailEntry.{MailEntry}
 use Rattle.aft_model.specs.declared.node.NodeEntry.{NodeEntry}
-use Rattle.aft_model.specs.declared.office.OfficeEntry.{OfficeEntry}
-use Rattle.aft_model.specs.declared.reply.Reply.{Reply}
-use Rattle.aft_model.specs.declared.script.Command.{Command}
 use Rattle.aft_model.specs.declared.script.Line.{Line}
 use Rattle.aft_model.proofs.Histories.{In}
-use Rattle.aft_model.specs.Membership.{the_office}
 use Rattle.aft_model.specs.Opening.{opening}
 use Rattle.aft_model.specs.ScanRun.{same_line}
 use Rattle.aft_lines.specs.Advance.{is_led_to_end, leads_to}
 use Rattle.aft_lines.specs.Asked.{Asked, Ran}
-use Rattle.aft_lines.specs.Causes.{Caused}
-use Rattle.aft_lines.specs.CausesRounds.{is_collect}
 use Rattle.aft_lines.specs.FinishedText.{line_of}
 use Rattle.aft_lines.specs.CausesAttempts.{speaks_of_attempt}
-use Rattle.aft_lines.specs.LegalTrace.{makers, named_node, stands_at, turn_of, turn_words}
+use Rattle.aft_lines.specs.LegalTrace.{named_node, stands_at, turn_of, turn_words}
 use Rattle.aft_lines.specs.Makes.{makes}
 use Rattle.aft_lines.specs.LineView.{LineView, ends_of}
 use Rattle.aft_lines.specs.Lines.{lines, node_numbers, whole_order}
 use Rattle.aft_lines.specs.Progress.{Progress}
 use Rattle.aft_lines.specs.RunsSoFar.{is_stopped_rightly, position_of}
-use Rattle.aft_lines.specs.Turns.{Turn, door_turns, end_front, node_turns, nodes_turns, office_turns, turns, with_turn}
+use Rattle.aft_lines.specs.Turns.{Turn, turns}
 use Rattle.aft_lines.specs.Views.{view_of}
 use Rattle.law_grows.proofs.Positions.{end_within, positions_over}
 use Rattle.law_grows.specs.Reach.{is_within}
@@ -38,7 +29,6 @@ use Rattle.law_runs.specs.Runs.{line_among}
 use Rattle.law_accounts.proofs.Idle.{turns_none}
 use Rattle.law_accounts.proofs.Lists.{all_more}
 use Rattle.law_accounts.proofs.Orders.{as_ordered, opening_parts, asks_so, clients_so, makers_so, opens_so}
-use Rattle.law_accounts.proofs.Others.{none_taken}
 use Rattle.law_accounts.proofs.Values.{boxes_stay, bytes_stay, clock_stays, door_stays, give_ups_stay, nodes_stay, office_stays_legal, settings_stay, stays_open}
 use Rattle.law_accounts.proofs.Views.{view_same}
 use Rattle.law_accounts.proofs.Within.{turns_within}

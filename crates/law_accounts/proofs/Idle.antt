@@ -1,5 +1,5 @@
 -- A line that has made no entry: it has no turn, and did nothing at the door or at the boxes.
-use Rattle.std.proofs.Common.{◌≡◌, ℕ, suc, Bool, true, false, not, List, [], ◌∷◌, ◌++◌, refl, sym, ap, ◌∙◌}
+use Rattle.std.proofs.Common.{◌≡◌, ℕ, suc, Bool, not, List, [], ◌∷◌, ◌++◌, refl, sym, ap, ◌∙◌}
 use Rattle.std.specs.Prelude.{IsTrue, filter, if◌then◌else◌, map}
 use Rattle.std.specs.List.{fold, list_all}
 use Rattle.std.proofs.lemmas.Bool.{and_parts, not-true}
@@ -13,7 +13,7 @@ use Rattle.aft_model.specs.NodeSights.{own_entries}
 use Rattle.aft_model.specs.ScanRun.{same_line}
 use Rattle.aft_lines.specs.Asked.{Ran}
 use Rattle.aft_lines.specs.LegalTrace.{makers}
-use Rattle.aft_lines.specs.LinePosts.{AtBox, at_boxes, from_office}
+use Rattle.aft_lines.specs.LinePosts.{at_boxes, from_office}
 use Rattle.aft_lines.specs.Turns.{Turn, door_turns, node_turns, nodes_turns, office_turns, turns, with_turn}
 use Rattle.law_accounts.proofs.Others.{none_taken}
 

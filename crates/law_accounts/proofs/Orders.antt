@@ -1,5 +1,5 @@
 -- Who made the entries of a run with one more: lines that the run asks, each client's in turn, and where lines run whole in their order.
-use Rattle.std.proofs.Common.{◌≡◌, ◌≤◌, ◌<◌, ℕ, zero, suc, Bool, true, false, ◌&&◌, ◌||◌, not, List, [], ◌∷◌, ◌++◌, drop, refl, sym, subst, ap, ◌∙◌, ◌⊎◌, inl, inr, eqb, leb, arith}
+use Rattle.std.proofs.Common.{◌≡◌, ◌<◌, ℕ, zero, suc, Bool, false, ◌&&◌, ◌||◌, not, List, [], ◌∷◌, ◌++◌, drop, refl, sym, subst, ap, ◌∙◌, ◌⊎◌, inl, inr, eqb, leb, arith}
 use Rattle.std.specs.Prelude.{IsFalse, IsTrue, None, Option, Some, map, nat_le}
 use Rattle.std.specs.List.{list_all, list_any}
 use Rattle.std.proofs.lemmas.Bool.{and_from, and_parts, cases_Bool, eqb-false, eqb-true, le-leb, not-true, or_cases, or_left, or_right, true≢false}
@@ -18,13 +18,13 @@ use Rattle.aft_model.specs.ScanRun.{same_line}
 use Rattle.aft_lines.specs.Asked.{Asked, Ran}
 use Rattle.aft_lines.specs.FinishedText.{line_of}
 use Rattle.aft_lines.specs.LegalTrace.{are_asks, asked_last, begin_behind_opening, clients_in_order, has_seen_earlier, in_rank_order, is_after_own, is_of_lines, makers, opens_as_asked, opens_first, ran_as_ordered, ran_whole, rank}
-use Rattle.aft_lines.specs.Lines.{lines, node_numbers, whole_order}
+use Rattle.aft_lines.specs.Lines.{lines, node_numbers}
 use Rattle.aft_lines.specs.OpeningCourse.{opening_course}
 use Rattle.aft_lines.specs.Turns.{Turn, end_front, turns}
 use Rattle.law_accounts.proofs.Lists.{all_more, each_more, each_with_more, map_more, maps_with}
 use Rattle.law_accounts.proofs.Others.{turns_same}
-use Rattle.law_accounts.specs.Account.{Account, IsDone, MayGoOn, Runs, Stand, Waits, has_made_nothing}
-use Rattle.law_accounts.specs.Adding.{AddsAtBox, AddsAtDoor, AddsAtNode, AddsAtOffice, Added, ComesAsOrdered, ComesInOrder, Follows, comes_in, maker_of, with_added, with_entry_in}
+use Rattle.law_accounts.specs.Account.{Account, IsDone, MayGoOn, Runs, Stand, Waits}
+use Rattle.law_accounts.specs.Adding.{AddsAtBox, AddsAtDoor, AddsAtNode, AddsAtOffice, Added, ComesInOrder, Follows, comes_in, maker_of, with_added, with_entry_in}
 use Rattle.law_claims.proofs.Scenes.{by_itself}
 
 -- what holds of the makers of each history holds with one more, if it does behind each of them

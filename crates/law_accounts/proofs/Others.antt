@@ -2,7 +2,6 @@
 use Rattle.std.proofs.Common.{◌≡◌, ℕ, suc, Bool, true, false, not, List, [], ◌∷◌, ◌++◌, refl, ap, ◌∙◌, eqb, append-nil}
 use Rattle.std.specs.Prelude.{IsFalse, filter, if◌then◌else◌, map}
 use Rattle.std.specs.List.{fold}
-use Rattle.std.proofs.lemmas.Bool.{not-true}
 use Rattle.std.proofs.lemmas.List.Elements.{filter-append}
 use Rattle.aft_model.specs.declared.caller.By.{By}
 use Rattle.aft_model.specs.declared.door.DoorEntry.{DoorEntry}
@@ -13,7 +12,7 @@ use Rattle.aft_model.specs.declared.script.Command.{Command}
 use Rattle.aft_model.specs.declared.script.Command.TheVariants as commands
 use Rattle.aft_model.specs.ScanRun.{same_line}
 use Rattle.aft_lines.specs.Asked.{Ran}
-use Rattle.aft_lines.specs.LinePosts.{AtBox, at_boxes, from_nodes, from_office, is_at_office, posts_of}
+use Rattle.aft_lines.specs.LinePosts.{AtBox, at_boxes, from_office, is_at_office, posts_of}
 use Rattle.aft_lines.specs.Turns.{AtDoor, AtNode, AtOffice, Turn, door_turns, node_turns, nodes_turns, office_turns, turns, with_turn}
 use Rattle.law_accounts.specs.Adding.{AddsAtBox, AddsAtDoor, AddsAtNode, AddsAtOffice, Added, maker_of, with_added, with_entry_in}
 

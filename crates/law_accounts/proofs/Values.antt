@@ -1,6 +1,6 @@
 -- The histories of a run with one entry more are legal as far as they go.
-use Rattle.std.proofs.Common.{◌≡◌, ◌-◌, ℕ, zero, suc, Bool, true, false, ◌&&◌, ◌||◌, not, List, [], ◌∷◌, ◌++◌, take, drop, refl, sym, subst, ap, ◌∙◌, inl, inr, eqb}
-use Rattle.std.specs.Prelude.{IsFalse, IsTrue, if◌then◌else◌, length, nat_le}
+use Rattle.std.proofs.Common.{◌≡◌, ◌-◌, ℕ, zero, suc, Bool, true, false, ◌&&◌, ◌||◌, List, [], ◌∷◌, ◌++◌, take, drop, refl, sym, subst, ◌∙◌, inl, inr, eqb}
+use Rattle.std.specs.Prelude.{IsTrue, if◌then◌else◌, length}
 use Rattle.std.specs.List.{list_all, list_any}
 use Rattle.std.proofs.lemmas.Bool.{and_from, and_parts, eqb-true, false≢true, or_cases, or_left, or_right}
 use Rattle.std.proofs.lemmas.List.Folds.{list_any-append}
@@ -9,11 +9,9 @@ use Rattle.aft_model.specs.declared.door.DoorAct.{DoorAct}
 use Rattle.aft_model.specs.declared.door.DoorAct.TheVariants as door_acts
 use Rattle.aft_model.specs.declared.door.DoorEntry.{DoorEntry}
 use Rattle.aft_model.specs.declared.node.NodeEntry.{NodeEntry}
-use Rattle.aft_id.specs.declared.txn_id.TxnId.{TxnId}
 use Rattle.aft_model.specs.Boxes.{is_legal_box}
 use Rattle.aft_model.specs.Bytes.{HasBytes}
 use Rattle.aft_model.specs.DoorKnowledge.{is_open, opens}
-use Rattle.aft_model.specs.History.{each_after}
 use Rattle.aft_model.specs.LegalDoor.{Legal}
 use Rattle.aft_model.specs.LegalNode.{is_legal_node}
 use Rattle.aft_model.specs.NodeSights.{is_seen_node, may_come_at}

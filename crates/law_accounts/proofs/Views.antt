@@ -1,11 +1,10 @@
 -- The view of a line when another adds an entry: it stays, but for the histories of the nodes.
-use Rattle.std.proofs.Common.{◌≡◌, ◌≤◌, ◌<◌, ℕ, suc, Bool, true, false, ◌&&◌, List, [], ◌∷◌, ◌++◌, take, refl, sym, ap, ◌∙◌, eqb, arith}
+use Rattle.std.proofs.Common.{◌≡◌, ◌≤◌, ◌<◌, ℕ, Bool, ◌&&◌, List, [], ◌∷◌, take, refl, ap, ◌∙◌, eqb}
 use Rattle.std.specs.Prelude.{IsFalse, IsTrue, Option, None, Some, filter, length, nat_lt}
 use Rattle.std.proofs.lemmas.Bool.{and_parts, eqb-true, ltb-true}
 use Rattle.std.proofs.lemmas.List.{take-append-le}
 use Rattle.aft_model.specs.declared.caller.Hold.{Hold}
 use Rattle.aft_model.specs.declared.door.DoorEntry.{DoorEntry}
-use Rattle.aft_model.specs.declared.node.NodeEntry.{NodeEntry}
 use Rattle.aft_model.specs.declared.script.Line.{Line}
 use Rattle.aft_model.specs.Opening.{opening}
 use Rattle.aft_model.specs.ScanRun.{same_line}

@@ -1,6 +1,6 @@
 -- The turns of a line have seen no more of the door's history than there is.
-use Rattle.std.proofs.Common.{◌≡◌, ◌≤◌, ◌+◌, ℕ, suc, Bool, true, false, List, [], ◌∷◌, ◌++◌, refl, arith, ◌∙◌}
-use Rattle.std.specs.Prelude.{IsTrue, if◌then◌else◌, length, nat_le, nat_lt, ◌&&◌}
+use Rattle.std.proofs.Common.{◌≤◌, ◌+◌, ℕ, suc, Bool, true, false, List, [], ◌∷◌, ◌++◌, refl, arith, ◌∙◌}
+use Rattle.std.specs.Prelude.{IsTrue, if◌then◌else◌, length, nat_le, ◌&&◌}
 use Rattle.std.specs.List.{list_all}
 use Rattle.std.proofs.lemmas.Bool.{and_from, and_parts, lt-ltb}
 use Rattle.std.proofs.lemmas.List.Folds.{list_all-append}
@@ -13,8 +13,8 @@ use Rattle.aft_model.proofs.Histories.{all_at}
 use Rattle.aft_model.proofs.Lists.{all_from}
 use Rattle.aft_model.specs.History.{each_after}
 use Rattle.aft_model.specs.LegalNode.{is_legal_node}
-use Rattle.aft_model.specs.NodeSights.{has_seen, is_seen_node, may_come_at}
-use Rattle.aft_model.specs.Office.{heard, is_backed, is_legal_alone, is_legal_beside, is_legal_office, may_come_beside}
+use Rattle.aft_model.specs.NodeSights.{is_seen_node, may_come_at}
+use Rattle.aft_model.specs.Office.{is_legal_alone, is_legal_beside, is_legal_office, may_come_beside}
 use Rattle.aft_model.specs.ScanRun.{same_line}
 use Rattle.aft_lines.specs.LegalTrace.{are_legal_nodes}
 use Rattle.aft_lines.specs.Turns.{AtDoor, AtNode, AtOffice, Turn, door_turns, node_turns, nodes_turns, office_turns, turns}

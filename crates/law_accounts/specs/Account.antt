@@ -1,5 +1,5 @@
 -- The account of a run on its way: what its histories are, and how each of its lines stands.
-use Rattle.std.specs.Prelude.{Bool, IsFalse, IsTrue, List, None, Option, Some, [], is_some, length, map, not, suc, ℕ, ◌<◌, ◌||◌, ◌≡◌, ◌⊎◌}
+use Rattle.std.specs.Prelude.{Bool, IsFalse, IsTrue, List, None, Option, Some, is_some, not, ◌<◌, ◌||◌, ◌≡◌, ◌⊎◌}
 use Rattle.std.specs.List.{fold, list_all}
 use Rattle.aft_model.proofs.Histories.{In}
 use Rattle.aft_model.specs.declared.node.NodeEntry.{NodeEntry}

@@ -17,7 +17,7 @@ use Rattle.aft_model.specs.Opening.{opening}
 use Rattle.aft_lines.specs.Asked.{Asked, Ran}
 use Rattle.aft_lines.specs.LegalTrace.{act_at, has_seen_earlier, is_backed_at, makers, rank}
 use Rattle.aft_lines.specs.Lines.{whole_order}
-use Rattle.aft_lines.specs.Turns.{AtDoor, AtNode, AtOffice, Turn, end_front, turns}
+use Rattle.aft_lines.specs.Turns.{end_front, turns}
 
 -- what is added: an entry at the door, at the node of a number, at the office, or at the box of a number
 pub data Added : Type 0 where

@@ -1,7 +1,6 @@
 -- A line whose turns are right goes along.
-use Rattle.std.proofs.Common.{◌≡◌, ◌<◌, ℕ, Bool, true, false, ◌||◌, not, refl, sym, subst, inl, inr, arith, ap, eqb}
+use Rattle.std.proofs.Common.{◌≡◌, ◌<◌, ℕ, Bool, true, ◌||◌, not, sym, subst, inl, inr, arith, ap, eqb}
 use Rattle.std.specs.Prelude.{IsFalse, IsTrue}
-use Rattle.std.specs.List.{list_all}
 use Rattle.std.proofs.lemmas.Bool.{and_parts, cases_Bool, eqb-true, or_left, or_right}
 use Rattle.aft_model.specs.declared.caller.By.{By}
 use Rattle.aft_model.specs.declared.script.Line.{Line}

@@ -1,6 +1,6 @@
 -- A machine's turn at the door keeps the account.
-use Rattle.std.proofs.Common.{◌≡◌, ◌≤◌, ℕ, suc, Bool, true, false, List, [], ◌∷◌, ◌++◌, take, refl, sym, subst, ap, ◌∙◌, inl, inr, arith, append_assoc, append-nil}
-use Rattle.std.specs.Prelude.{IsFalse, IsTrue, None, Option, Some, length, nat_le, nat_lt}
+use Rattle.std.proofs.Common.{◌≡◌, false, List, [], ◌∷◌, ◌++◌, refl, sym, subst, ap, ◌∙◌, inl, arith, append_assoc, append-nil}
+use Rattle.std.specs.Prelude.{IsFalse, IsTrue, None, Option, Some, length, nat_le}
 use Rattle.std.specs.List.{list_all}
 use Rattle.std.proofs.lemmas.Bool.{false≢true, le-leb}
 use Rattle.aft_model.specs.declared.caller.Hold.{Hold}
@@ -26,8 +26,8 @@ use Rattle.law_accounts.proofs.GoesOn.{goes_on}
 use Rattle.law_accounts.proofs.Lists.{all_so}
 use Rattle.law_accounts.proofs.Turned.{turned_there}
 use Rattle.law_accounts.proofs.Within.{turns_within}
-use Rattle.law_accounts.specs.Account.{Account, GoesAlong, Stand}
-use Rattle.law_accounts.specs.Adding.{AddsAtDoor, Added, ComesAsOrdered, Follows, comes_in, maker_of, with_added}
+use Rattle.law_accounts.specs.Account.{GoesAlong, Stand}
+use Rattle.law_accounts.specs.Adding.{AddsAtDoor, Added, ComesAsOrdered, Follows, comes_in, with_added}
 use Rattle.law_accounts.specs.Turned.{is_at_node_or_door, turned_by}
 use Rattle.law_grows.specs.Reach.{is_within}
 use Rattle.law_driver.specs.Driven.{Driven, Promises, node_of, ranks_in}

@@ -1,12 +1,10 @@
 -- A turn at the door stops no line in the middle of its course.
-use Rattle.std.proofs.Common.{◌≡◌, ℕ, Bool, true, false, ◌&&◌, ◌||◌, not, List, [], ◌∷◌, ◌++◌, refl, subst, sym, ap, ◌∙◌}
+use Rattle.std.proofs.Common.{◌≡◌, ℕ, Bool, true, false, not, List, [], ◌∷◌, ◌++◌, refl, subst, sym}
 use Rattle.std.specs.Prelude.{IsTrue, None, Option, Some, if◌then◌else◌}
-use Rattle.std.specs.List.{fold}
 use Rattle.std.proofs.lemmas.Bool.{false≢true}
 use Rattle.std.proofs.lemmas.List.Sums.{fold-append}
 use Rattle.aft_keeper.specs.declared.keeper.KeeperAnswer.{KeeperAnswer}
 use Rattle.aft_keeper.specs.declared.keeper.KeeperCall.TheVariants as calls
-use Rattle.aft_model.specs.declared.caller.Attempt.{Attempt}
 use Rattle.aft_model.specs.declared.door.DoorAct.{DoorAct}
 use Rattle.aft_model.specs.declared.door.DoorAct.TheVariants as doors
 use Rattle.aft_model.specs.declared.door.DoorEntry.{DoorEntry}
@@ -14,7 +12,7 @@ use Rattle.aft_model.specs.Readings.{marker_name, record_name}
 use Rattle.aft_model.specs.declared.script.Command.{Command}
 use Rattle.aft_model.specs.declared.script.Command.TheVariants as commands
 use Rattle.aft_keeper.specs.declared.keeper.Pair.{Pair}
-use Rattle.aft_lines.specs.Advance.{advance, advance_claim, advance_finish, advance_get, advanced, behind_failure, behind_marker, behind_settling, got_by, if_nothing, if_so, leads_to, looked_by, put_by, released_by, stored_by}
+use Rattle.aft_lines.specs.Advance.{advance, advance_claim, advance_finish, advance_get, advanced, behind_failure, behind_marker, behind_settling, got_by, if_nothing, if_so, leads_to, looked_by, put_by, released_by}
 use Rattle.aft_lines.specs.BeginCourse.{Beginning, gets_own}
 use Rattle.aft_lines.specs.CommitCourse.{Storing, is_version_of, is_written_as}
 use Rattle.aft_lines.specs.CourseWords.{Ends, finds_nothing}

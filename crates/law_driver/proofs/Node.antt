@@ -1,8 +1,8 @@
 -- A machine's turn at its node keeps the account.
-use Rattle.std.proofs.Common.{◌≡◌, ◌≤◌, ◌<◌, ℕ, Bool, true, false, ◌||◌, not, List, [], ◌∷◌, ◌++◌, take, drop, refl, sym, subst, ap, ◌∙◌, inl, inr, arith, eqb, append-nil}
+use Rattle.std.proofs.Common.{◌≡◌, ◌≤◌, ℕ, Bool, true, false, List, [], ◌∷◌, ◌++◌, take, drop, refl, sym, subst, ap, ◌∙◌, inl, inr, arith}
 use Rattle.std.specs.Prelude.{IsFalse, IsTrue, None, Option, Some, if◌then◌else◌, length, max, nat_le, nat_lt}
 use Rattle.std.specs.List.{flat_map, fold, last_or, list_all}
-use Rattle.std.proofs.lemmas.Bool.{and_from, and_parts, cases_Bool, eqb-true, le-leb, leb-true, true≢false}
+use Rattle.std.proofs.lemmas.Bool.{and_from, and_parts, eqb-true, le-leb, leb-true, true≢false}
 use Rattle.std.proofs.lemmas.List.Concat.{flat_map-append}
 use Rattle.std.proofs.lemmas.List.Folds.{list_all-append}
 use Rattle.aft_model.specs.declared.caller.By.{By}
@@ -19,19 +19,17 @@ use Rattle.aft_model.specs.Opening.{opening}
 use Rattle.aft_model.specs.ScanRun.{same_line}
 use Rattle.aft_ledger.specs.View.{NodeView}
 use Rattle.aft_lines.specs.Asked.{Asked, Ran}
-use Rattle.aft_lines.specs.CausesAttempts.{speaks_of_attempt}
 use Rattle.aft_lines.specs.FinishedText.{line_of}
-use Rattle.aft_lines.specs.LegalTrace.{act_at, has_seen_earlier, named_node, rank, stands_at, turn_of, turn_words}
-use Rattle.aft_lines.specs.LineView.{LineView, NodeTurn, front_of, last_front, node_turn_in, node_turns}
+use Rattle.aft_lines.specs.LegalTrace.{act_at, has_seen_earlier, rank}
+use Rattle.aft_lines.specs.LineView.{LineView, NodeTurn, front_of, last_front, node_turn_in}
 use Rattle.aft_lines.specs.Lines.{hold_before, lines, node_numbers, whole_order}
 use Rattle.aft_lines.specs.Makes.{makes}
-use Rattle.aft_lines.specs.RunsSoFar.{is_stopped_rightly, position_of}
 use Rattle.aft_lines.specs.Turns.{AtDoor, AtNode, AtOffice, Turn, end_front, front_in, turns}
 use Rattle.aft_lines.specs.Views.{view_of}
 use Rattle.aft_node.specs.Closing.{last_own}
 use Rattle.aft_turns.specs.Stands.{EndsRightly, GoesRightly, HasLooked, RanSo, is_right, sees}
 use Rattle.aft_turns.specs.Steps.{entry_of}
-use Rattle.aft_turns.specs.Trail.{Trail, behind}
+use Rattle.aft_turns.specs.Trail.{Trail}
 use Rattle.law_accounts.proofs.GoesOn.{goes_on}
 use Rattle.law_accounts.proofs.Lists.{all_so}
 use Rattle.law_accounts.proofs.Orders.{makers_so}
@@ -40,12 +38,12 @@ use Rattle.law_accounts.proofs.Turned.{turned_there}
 use Rattle.law_accounts.proofs.Within.{turns_within}
 use Rattle.law_accounts.specs.Account.{Account, ComesToEnd, GoesAlong, IsDone, NoneCollects, Stand, beside}
 use Rattle.law_accounts.specs.Adding.{AddsAtNode, Added, ComesAsOrdered, Follows, comes_in, maker_of, numbered_in, ranks_last, with_added}
-use Rattle.law_accounts.specs.Turned.{is_at_node_or_door, is_past, turn_by, turned_by}
+use Rattle.law_accounts.specs.Turned.{is_at_node_or_door, is_past, turned_by}
 use Rattle.law_claims.proofs.Scenes.{by_itself}
 use Rattle.law_grows.proofs.Positions.{end_within}
 use Rattle.law_grows.specs.Reach.{is_within}
 use Rattle.law_driver.specs.Driven.{AllAtOneNode, Driven, IsNode, Promises, RanksLast, last_act, node_of, ranks_in, reads_clock}
-use Rattle.law_driver.specs.Kept.{StandsNow, behind_node, with_node, with_stand}
+use Rattle.law_driver.specs.Kept.{StandsNow, behind_node, with_stand}
 use Rattle.law_driver.proofs.Along.{goes_along, own_hold_same}
 use Rattle.law_driver.proofs.Closing.{act_at_node, last_with_own, numbered_more}
 use Rattle.law_driver.proofs.Rights.{no_collection, quiet_mail, right_parts, right_place}
@@ -187,11 +185,11 @@ module _ (asked : Asked) (ran : Ran) (stand : Line → Stand) (line : Line) (hol
   follows : Follows asked ran added
   follows = (
     subst (λ (h : List NodeEntry). IsTrue (is_legal_node node.number asked.settings.cache (h ++ entry ∷ []))) is_node.history
-    (subst (λ c. IsTrue (is_legal_node node.number c (node.history ++ entry ∷ []))) is_node.capacity legal),
+        (subst (λ c. IsTrue (is_legal_node node.number c (node.history ++ entry ∷ []))) is_node.capacity legal),
     and_from _ _ (le-leb entry.front (length door) (let e = front_is in omega arith))
-    (subst (λ (h : List NodeEntry). IsTrue (has_seen node.number (take entry.front door) entry.by h entry.act entry.answer)) is_node.history
-    (subst (λ (seen : List DoorEntry). IsTrue (has_seen node.number seen entry.by node.history entry.act entry.answer)) (sym (ap (λ n. take n door) front_is ∙ take_all door))
-    (sym (sees_last trail.turns node.number node.history entry door) ∙ promises.sees door (sees_node (line_of line) trail.turns node.number node.history entry door driven.sees)))),
+        (subst (λ (h : List NodeEntry). IsTrue (has_seen node.number (take entry.front door) entry.by h entry.act entry.answer)) is_node.history
+        (subst (λ (seen : List DoorEntry). IsTrue (has_seen node.number seen entry.by node.history entry.act entry.answer)) (sym (ap (λ n. take n door) front_is ∙ take_all door))
+        (sym (sees_last trail.turns node.number node.history entry door) ∙ promises.sees door driven.looked.0 (sees_node (line_of line) trail.turns node.number node.history entry door driven.sees) driven.looked.1))),
     last_reads,
     (let low = end_within (length door) (turns opening ran.trace) (turns_within opening asked.settings.cache ran.trace driven.account.nodes driven.account.office) in let e = front_is in omega arith),
   )
@@ -247,11 +245,11 @@ module _ (asked : Asked) (ran : Ran) (stand : Line → Stand) (line : Line) (hol
   is_over : done ≡ true → Account asked new (with_stand line IsDone stand) × (turns (line_of line) new.trace ≡ next.turns)
   is_over over = (
     goes_on asked ran stand (with_stand line IsDone stand) line added driven.account driven.may refl follows ordered none_collects
-    (record {
-      others = λ other listed differs. ap (λ (b : Bool). if b then IsDone else stand other) differs;
-      goes = along;
-      now = inr (ap (λ (b : Bool). if b then IsDone else stand line) (by_itself (line_of line)), ended);
-    }),
+        (record {
+          others = λ other listed differs. ap (λ (b : Bool). if b then IsDone else stand other) differs;
+          goes = along;
+          now = inr (ap (λ (b : Bool). if b then IsDone else stand line) (by_itself (line_of line)), ended);
+        }),
     turned,
   )
     where

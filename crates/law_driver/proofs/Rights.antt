@@ -1,14 +1,12 @@
 -- Turns of a line whose machine keeps to one node and the door: they stand there, and give nothing up.
-use Rattle.std.proofs.Common.{◌≡◌, ℕ, Bool, true, false, ◌&&◌, ◌||◌, not, List, [], ◌∷◌, refl, sym, subst, ap, ◌∙◌, eqb}
-use Rattle.std.specs.Prelude.{IsFalse, IsTrue, None, Option, Some}
+use Rattle.std.proofs.Common.{◌≡◌, ℕ, ◌&&◌, ◌||◌, not, List, [], refl, sym, subst}
+use Rattle.std.specs.Prelude.{IsFalse, IsTrue, Option, Some}
 use Rattle.std.proofs.lemmas.Bool.{and_parts, eqb-true, eq-eqb, false≢true}
 use Rattle.aft_id.specs.declared.txn_id.TxnId.{TxnId}
 use Rattle.aft_model.specs.declared.caller.By.{By}
 use Rattle.aft_model.specs.declared.caller.Hold.{Hold}
 use Rattle.aft_model.specs.declared.door.DoorAct.{DoorAct}
 use Rattle.aft_model.specs.declared.door.DoorAct.TheVariants as doors
-use Rattle.aft_model.specs.declared.node.NodeAct.{NodeAct}
-use Rattle.aft_model.specs.declared.node.NodeAct.TheVariants as acts
 use Rattle.aft_model.specs.declared.node.NodeEntry.{NodeEntry}
 use Rattle.aft_model.specs.declared.mail.MailEntry.{MailEntry}
 use Rattle.aft_model.specs.declared.office.OfficeAct.{OfficeAct}
@@ -18,7 +16,7 @@ use Rattle.aft_lines.specs.CausesAttempts.{speaks_of_attempt}
 use Rattle.aft_lines.specs.CausesRounds.{is_collect}
 use Rattle.aft_lines.specs.LegalTrace.{is_backed_at, is_named, named_node, stands_at, turn_of, turn_words}
 use Rattle.aft_lines.specs.LinePosts.{AtBox, does_nothing, from_office, keeps_mail, posts_of}
-use Rattle.aft_lines.specs.Makes.{makes, makes_at_door, makes_at_node, makes_at_office}
+use Rattle.aft_lines.specs.Makes.{makes, makes_at_door, makes_at_office}
 use Rattle.aft_lines.specs.Turns.{AtDoor, AtNode, AtOffice, Turn}
 use Rattle.aft_turns.specs.Stands.{is_right}
 use Rattle.law_accounts.specs.Turned.{is_at_node_or_door}

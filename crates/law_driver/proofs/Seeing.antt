@@ -1,6 +1,6 @@
 -- The last of some turns; and what a line did at the door, as others and it do more.
-use Rattle.std.proofs.Common.{◌≡◌, ℕ, zero, suc, Bool, true, false, List, [], ◌∷◌, ◌++◌, drop, refl, sym, subst, ap, ◌∙◌, append-nil}
-use Rattle.std.specs.Prelude.{IsFalse, IsTrue, None, Option, Some, filter, if◌then◌else◌, length}
+use Rattle.std.proofs.Common.{◌≡◌, ℕ, zero, suc, Bool, List, [], ◌∷◌, ◌++◌, drop, refl, sym, ap, ◌∙◌, append-nil}
+use Rattle.std.specs.Prelude.{IsFalse, Option, Some, if◌then◌else◌, length}
 use Rattle.std.specs.List.{flat_map, fold, last_or}
 use Rattle.std.proofs.lemmas.List.Concat.{flat_map-append}
 use Rattle.std.proofs.lemmas.List.Elements.{filter-append}
@@ -14,7 +14,6 @@ use Rattle.aft_model.specs.ScanRun.{same_line}
 use Rattle.aft_lines.specs.LineView.{door_entry_in}
 use Rattle.aft_lines.specs.Turns.{AtDoor, AtNode, AtOffice, Turn}
 use Rattle.aft_turns.specs.Stands.{SeesOwn, StandIn}
-use Rattle.law_accounts.proofs.Others.{none_taken}
 use Rattle.law_claims.proofs.Scenes.{by_itself}
 
 -- ---- the last

@@ -1,5 +1,5 @@
 -- A line that its machine runs on one thread, and what the machine promises.
-use Rattle.std.specs.Prelude.{Bool, IsFalse, IsTrue, List, None, Option, Some, [], false, length, max, nat_le, true, ℕ, ◌&&◌, ◌++◌, ◌≡◌, ◌≤◌}
+use Rattle.std.specs.Prelude.{Bool, IsTrue, List, None, Option, Some, [], false, length, nat_le, true, ℕ, ◌&&◌, ◌++◌, ◌≡◌, ◌≤◌}
 use Rattle.std.specs.List.{fold, list_all}
 use Rattle.aft_model.proofs.Histories.{In}
 use Rattle.aft_model.specs.declared.caller.By.{By}
@@ -9,7 +9,6 @@ use Rattle.aft_model.specs.declared.node.NodeAct.{NodeAct}
 use Rattle.aft_model.specs.declared.script.Command.{Command}
 use Rattle.aft_model.specs.declared.script.Command.TheVariants as commands
 use Rattle.aft_model.specs.declared.script.Line.{Line}
-use Rattle.aft_model.specs.LegalNode.{LegalNode}
 use Rattle.aft_ledger.specs.View.{NodeView}
 use Rattle.aft_lines.specs.Asked.{Asked, Ran}
 use Rattle.aft_lines.specs.FinishedText.{line_of}
@@ -47,7 +46,7 @@ reads_clock clock turn = true
 pub record Promises (by : By) (command : Command) (hold : Hold) (capacity : ℕ) (clock : Option ℕ) (done : Bool) (trail : Trail) : Type 0 where
   pub goes : (view : LineView) → RanSo command hold capacity trail view → (IsTrue done → HasLooked trail view) → GoesRightly view
   pub ends : (view : LineView) → RanSo command hold capacity trail view → view.clock ≡ clock → IsTrue done → HasLooked trail view → EndsRightly view
-  pub sees : (seen : List DoorEntry) → SeesOwn by trail.turns seen → IsTrue (last_sees seen trail.turns)
+  pub sees : (seen rest : List DoorEntry) → SeesOwn by trail.turns seen → seen ≡ trail.look ++ rest → IsTrue (last_sees seen trail.turns)
   pub reads : IsTrue (list_all (reads_clock clock) trail.turns)
 
 -- ---- a line that it runs

@@ -12,16 +12,16 @@ returns-clause-fits c = subst (FitsAt c.args.hold.now.node) (sym c.opened.ensure
 
 pub returns-clause-steps : goal.returns-clause-steps
 returns-clause-steps c =
-    subst (λ (s : Stage). OpenStep c.args.now c.args.front c.args.by c.args.hold.now c.args.node.now c.if-aborts.node c.law.ensures.legal (λ a held. c.requires.attempt a held ∙ c.requires.place) c.args.aborts s) (sym c.opened.ensures.value)
+    subst (λ (s : Stage). OpenStep c.args.now c.args.front c.args.by c.args.hold.now c.args.node.now c.if-aborts.node c.law.ensures.legal c.requires.place (λ a held. c.requires.attempt a held ∙ c.requires.place) c.args.aborts s) (sym c.opened.ensures.value)
     (elim c.if-aborts.branch [
       | then-aborts w ↦
-          subst (λ (t : Bool). OpenStep c.args.now c.args.front c.args.by c.args.hold.now c.args.node.now c.if-aborts.node c.law.ensures.legal (λ a held. c.requires.attempt a held ∙ c.requires.place) t (opened_stage c.if-aborts.go c.args.hold.now.attempt t)) (sym w.if-aborts.true)
-          (subst (λ (n : NodeView). OpenStep c.args.now c.args.front c.args.by c.args.hold.now c.args.node.now n c.law.ensures.legal (λ a held. c.requires.attempt a held ∙ c.requires.place) true (opened_stage c.if-aborts.go c.args.hold.now.attempt true)) (sym w.node-is)
-          (subst (λ (g : StartGo). OpenStep c.args.now c.args.front c.args.by c.args.hold.now c.args.node.now w.leave-go.new.self c.law.ensures.legal (λ a held. c.requires.attempt a held ∙ c.requires.place) true (opened_stage g c.args.hold.now.attempt true)) (sym w.go-is)
-          (leave_step c.args.now c.args.front c.args.by c.args.hold.now c.args.node.now w.leave-go.new.self c.law.ensures.legal (λ a held. c.requires.attempt a held ∙ c.requires.place) w.leave-go.result w.leave-go.ensures)))
+          subst (λ (t : Bool). OpenStep c.args.now c.args.front c.args.by c.args.hold.now c.args.node.now c.if-aborts.node c.law.ensures.legal c.requires.place (λ a held. c.requires.attempt a held ∙ c.requires.place) t (opened_stage c.if-aborts.go c.args.hold.now.attempt t)) (sym w.if-aborts.true)
+          (subst (λ (n : NodeView). OpenStep c.args.now c.args.front c.args.by c.args.hold.now c.args.node.now n c.law.ensures.legal c.requires.place (λ a held. c.requires.attempt a held ∙ c.requires.place) true (opened_stage c.if-aborts.go c.args.hold.now.attempt true)) (sym w.node-is)
+          (subst (λ (g : StartGo). OpenStep c.args.now c.args.front c.args.by c.args.hold.now c.args.node.now w.leave-go.new.self c.law.ensures.legal c.requires.place (λ a held. c.requires.attempt a held ∙ c.requires.place) true (opened_stage g c.args.hold.now.attempt true)) (sym w.go-is)
+          (leave_step c.args.now c.args.front c.args.by c.args.hold.now c.args.node.now w.leave-go.new.self c.law.ensures.legal c.requires.place (λ a held. c.requires.attempt a held ∙ c.requires.place) w.leave-go.result w.leave-go.ensures)))
       | else-aborts w ↦
-          subst (λ (t : Bool). OpenStep c.args.now c.args.front c.args.by c.args.hold.now c.args.node.now c.if-aborts.node c.law.ensures.legal (λ a held. c.requires.attempt a held ∙ c.requires.place) t (opened_stage c.if-aborts.go c.args.hold.now.attempt t)) (sym w.if-aborts.false)
-          (subst (λ (n : NodeView). OpenStep c.args.now c.args.front c.args.by c.args.hold.now c.args.node.now n c.law.ensures.legal (λ a held. c.requires.attempt a held ∙ c.requires.place) false (opened_stage c.if-aborts.go c.args.hold.now.attempt false)) (sym w.node-is)
-          (subst (λ (g : StartGo). OpenStep c.args.now c.args.front c.args.by c.args.hold.now c.args.node.now w.start-go.new.self c.law.ensures.legal (λ a held. c.requires.attempt a held ∙ c.requires.place) false (opened_stage g c.args.hold.now.attempt false)) (sym w.go-is)
-          (start_step c.args.now c.args.front c.args.by c.args.hold.now c.args.node.now w.start-go.new.self c.law.ensures.legal (λ a held. c.requires.attempt a held ∙ c.requires.place) w.start-go.result w.start-go.ensures)))
+          subst (λ (t : Bool). OpenStep c.args.now c.args.front c.args.by c.args.hold.now c.args.node.now c.if-aborts.node c.law.ensures.legal c.requires.place (λ a held. c.requires.attempt a held ∙ c.requires.place) t (opened_stage c.if-aborts.go c.args.hold.now.attempt t)) (sym w.if-aborts.false)
+          (subst (λ (n : NodeView). OpenStep c.args.now c.args.front c.args.by c.args.hold.now c.args.node.now n c.law.ensures.legal c.requires.place (λ a held. c.requires.attempt a held ∙ c.requires.place) false (opened_stage c.if-aborts.go c.args.hold.now.attempt false)) (sym w.node-is)
+          (subst (λ (g : StartGo). OpenStep c.args.now c.args.front c.args.by c.args.hold.now c.args.node.now w.start-go.new.self c.law.ensures.legal c.requires.place (λ a held. c.requires.attempt a held ∙ c.requires.place) false (opened_stage g c.args.hold.now.attempt false)) (sym w.go-is)
+          (start_step c.args.now c.args.front c.args.by c.args.hold.now c.args.node.now w.start-go.new.self c.law.ensures.legal c.requires.place (λ a held. c.requires.attempt a held ∙ c.requires.place) w.start-go.result w.start-go.ensures)))
     ])

@@ -1,0 +1,4 @@
+pub mod Booted
+pub mod Picked
+pub mod Open
+pub mod Goes
