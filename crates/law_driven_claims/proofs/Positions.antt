@@ -36,7 +36,7 @@ use Rattle.aft_begin.specs.declared.aim.Aim.TheVariants.{Begin, Forget}
 use Rattle.aft_begin.specs.declared.sought.Sought.TheVariants.{Marker, Record}
 use Rattle.aft_begin.specs.Made.{begun_turns, turn_at}
 use Rattle.aft_begin.specs.View.{asks}
-use Rattle.aft_begin.specs.Way.{Claimed, Deleted, LookedForMarker, LookedForRecord, Unclaimed, Way, claim_act, release_turns, way_turns}
+use Rattle.aft_begin.specs.Way.{Claimed, Deleted, LookedForMarker, LookedForRecord, Unclaimed, Way, claim_act, delete_act, look_act, release_turns, way_turns}
 use Rattle.law_driver.specs.Driven.{last_act, node_of}
 use Rattle.law_driven_claims.proofs.Opens.{is_claiming}
 use Rattle.aft_model.specs.declared.caller.Hold.{Hold}
@@ -132,16 +132,22 @@ module _ (aim : Aim) (node : ℕ) (uuid nodes : List ℕ) (ends : Ends) where
   same_some : (p q : Progress) → Some p ≡ Some q → p ≡ q
   same_some p q e = cc
 
-  -- they leave the attempt with the line
-  doors_move : (a : Attempt) (line : List Turn) → AreDoors line → (p q : Progress) → IsTrue (moves p a IsOpening uuid) → fold (advanced step) (Some p) line ≡ Some q → IsTrue (moves q a IsOpening uuid)
-  doors_move a [] are p q so is = subst (λ (x : Progress). IsTrue (moves x a IsOpening uuid)) (same_some p q is) so
-  doors_move a (AtDoor place act ∷ line) are p q so is = by_step (step p (AtDoor place act)) refl is
-    where
-      by_step : (o : Option Progress) → step p (AtDoor place act) ≡ o → fold (advanced step) o line ≡ Some q → IsTrue (moves q a IsOpening uuid)
-      by_step None e is = absurd (from_nowhere step line q is)
-      by_step (Some r) e is = doors_move a line are r q (attempts_stay (asks aim uuid node) nodes uuid ends p r place act a IsOpening (of_attempt aim) so e) is
-  doors_move a (AtNode at before entry ∷ line) are p q so is = absurd are
-  doors_move a (AtOffice before entry ∷ line) are p q so is = absurd are
+  -- a position, if there is one, moves the attempt
+  abbrev Moving : Attempt → Option Progress → Type 0
+  Moving a None = Unit {0}
+  Moving a (Some p) = IsTrue (moves p a IsOpening uuid)
+
+  stays : (a : Attempt) (p : Progress) (place : ℕ) (act : DoorAct) (o : Option Progress) → step p (AtDoor place act) ≡ o → IsTrue (moves p a IsOpening uuid) → Moving a o
+  stays a p place act None e so = tt
+  stays a p place act (Some r) e so = attempts_stay (asks aim uuid node) nodes uuid ends p r place act a IsOpening (of_attempt aim) so e
+
+  -- turns at the door leave the attempt with the line
+  doors_move : (a : Attempt) (line : List Turn) → AreDoors line → (o : Option Progress) (q : Progress) → Moving a o → fold (advanced step) o line ≡ Some q → IsTrue (moves q a IsOpening uuid)
+  doors_move a line are None q so is = absurd (from_nowhere step line q is)
+  doors_move a [] are (Some p) q so is = subst (λ (x : Progress). IsTrue (moves x a IsOpening uuid)) (same_some p q is) so
+  doors_move a (AtDoor place act ∷ line) are (Some p) q so is = doors_move a line are (step p (AtDoor place act)) q (stays a p place act (step p (AtDoor place act)) refl so) is
+  doors_move a (AtNode at before entry ∷ line) are (Some p) q so is = absurd are
+  doors_move a (AtOffice before entry ∷ line) are (Some p) q so is = absurd are
 
   -- calls leave it its claim
   calls_hold : (line : List Turn) → AreCalls line → (o : Option Progress) (q : Progress) → Holding o → fold (advanced step) o line ≡ Some q → IsTrue (has_claim_at q)
@@ -186,7 +192,7 @@ module _ (aim : Aim) (node : ℕ) (uuid nodes : List ℕ) (ends : Ends) where
     -- its position moves the attempt
     pub come_moves : (way : Way) (release : Option ℕ) (q : Progress) → leads_to (asks aim uuid node) nodes ends (come_turns way release) ≡ Some q → IsTrue (moves q a IsOpening uuid)
     come_moves way release q is =
-        doors_move a (way_turns a uuid way ++ release_turns a uuid release) (are_doors way release) (Admitted begun) q (and_from _ _ (and_from _ _ (same_itself a) refl) (bytes_eq-refl uuid))
+        doors_move a (way_turns a uuid way ++ release_turns a uuid release) (are_doors way release) (Some (Admitted begun)) q (and_from _ _ (and_from _ _ (same_itself a) refl) (bytes_eq-refl uuid))
         (behind_first (way_turns a uuid way ++ release_turns a uuid release) q is)
 
     -- it has no claim before it claims
@@ -204,9 +210,10 @@ module _ (aim : Aim) (node : ℕ) (uuid nodes : List ℕ) (ends : Ends) where
     pub claimed_holds : (way : Way) → (way ≡ Unclaimed → ⊥) → (q : Progress) → leads_to (asks aim uuid node) nodes ends (come_turns way None) ≡ Some q → IsTrue (has_claim_at q)
     claimed_holds Unclaimed claimed q is = absurd (claimed refl)
     claimed_holds (Claimed p) claimed q is = claims_then p [] tt q is
-    claimed_holds (LookedForRecord p s answer) claimed q is = claims_then p _ tt q is
-    claimed_holds (LookedForMarker p s r answer) claimed q is = claims_then p _ tt q is
-    claimed_holds (Deleted p s r bytes id at answer) claimed q is = claims_then p _ tt q is
+    claimed_holds (LookedForRecord p s answer) claimed q is = claims_then p (AtDoor s (look_act a uuid Record answer) ∷ []) tt q is
+    claimed_holds (LookedForMarker p s r answer) claimed q is = claims_then p (AtDoor s (look_act a uuid Record answers.Absent) ∷ AtDoor r (look_act a uuid Marker answer) ∷ []) tt q is
+    claimed_holds (Deleted p s r bytes id at answer) claimed q is =
+        claims_then p (AtDoor s (look_act a uuid Record answers.Absent) ∷ AtDoor r (look_act a uuid Marker (answers.Found bytes)) ∷ AtDoor at (delete_act a uuid answer) ∷ []) tt q is
 
     -- ---- what it did last at its node
 
