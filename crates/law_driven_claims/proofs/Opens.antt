@@ -1,7 +1,6 @@
 -- While a node serves its incarnation, the attempt of a begin or a forget is moved by its line alone, and opens, though the incarnation was fenced.
 use Rattle.std.proofs.Common.{◌≡◌, ◌≤◌, ℕ, suc, Bool, true, false, ◌&&◌, not, List, [], ◌∷◌, ◌++◌, refl, sym, ap, subst, ◌∙◌, ◌⊎◌, inl, inr, eqb, append-nil, append_assoc, arith}
 use Rattle.std.specs.Prelude.{IsFalse, IsTrue, None, Option, Some, if◌then◌else◌, nat_le}
-use Rattle.std.specs.List.{flat_map}
 use Rattle.std.proofs.lemmas.Bool.{and_from, and_parts, cases_Bool, eqb-true, false_from_ne_true, false≢true, true≢false}
 use Rattle.std.proofs.lemmas.List.Concat.{flat_map-append}
 use Rattle.aft_model.specs.declared.caller.Attempt.{Attempt}
@@ -13,7 +12,7 @@ use Rattle.aft_model.specs.declared.node.NodeEntry.{NodeEntry}
 use Rattle.aft_model.specs.declared.reply.Reply.{Reply}
 use Rattle.aft_model.specs.declared.script.Command.{Command}
 use Rattle.aft_model.specs.declared.script.Command.TheVariants as commands
-use Rattle.aft_model.specs.Attempts.{AttemptState, IsGone, IsInDoubt, IsOpening, IsRunning, admitted_by, attempt_after, attempt_state, attempts, is_gone, same_attempt, uuid_after, uuid_of}
+use Rattle.aft_model.specs.Attempts.{AttemptState, IsInDoubt, IsOpening, IsRunning, admitted_by, attempt_after, attempt_state, attempts, is_gone, same_attempt, uuid_after, uuid_of}
 use Rattle.aft_model.specs.LegalNode.{LegalNode, front, may_be_done, may_follow_at, may_serve}
 use Rattle.aft_model.specs.NodeRules.{may_begin_boot}
 use Rattle.aft_model.specs.NodeState.{IsBooting, IsDown, IsServing, NodeState, Service, boots, extended, newest, newest_after, node_state, serves, state_after}
@@ -33,7 +32,6 @@ use Rattle.law_attempts.proofs.Acts.{uuid-snoc}
 use Rattle.law_attempts.proofs.Lives.{lives}
 use Rattle.law_attempts.proofs.Newest.{acts_of_own, serving_newest}
 use Rattle.law_attempts.proofs.Standing.{not_again, same_itself}
-use Rattle.law_holders.specs.Rows.{is_of_attempt}
 use Rattle.law_claims.specs.Doing.{attempt_at, is_doing, moves}
 use Rattle.law_claims.specs.Moments.{Asking, ByCommand, ByCourse, ByNobody, Comes, IsMade, MayCome, scene_of}
 use Rattle.law_claims.specs.Scenes.{AreLegal, Keeps, Scene}

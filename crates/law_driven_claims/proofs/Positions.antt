@@ -12,10 +12,8 @@ use Rattle.aft_model.specs.declared.caller.Attempt.{Attempt}
 use Rattle.aft_model.specs.declared.caller.By.{By}
 use Rattle.aft_model.specs.declared.door.DoorAct.{DoorAct}
 use Rattle.aft_model.specs.declared.door.DoorAct.TheVariants as doors
-use Rattle.aft_model.specs.declared.node.NodeAct.{NodeAct}
 use Rattle.aft_model.specs.declared.node.NodeAct.TheVariants as acts
 use Rattle.aft_model.specs.declared.node.NodeEntry.{NodeEntry}
-use Rattle.aft_model.specs.declared.script.Command.{Command}
 use Rattle.aft_model.specs.Attempts.{AttemptState, IsOpening, is_opening}
 use Rattle.aft_model.specs.Membership.{incarnation, same_incarnation}
 use Rattle.aft_model.specs.Readings.{marker_name, record_name}

@@ -1,8 +1,8 @@
 -- How a driven begin or forget stands whose attempt was admitted.
-use Rattle.std.proofs.Common.{◌≡◌, ℕ, Bool, true, false, ◌&&◌, ◌||◌, not, List, [], ◌∷◌, ◌++◌, refl, sym, ap, subst, ◌∙◌, ◌⊎◌, inl, inr, append-nil}
+use Rattle.std.proofs.Common.{◌≡◌, ℕ, Bool, false, ◌||◌, not, List, [], ◌++◌, sym, ap, subst, ◌∙◌, ◌⊎◌, inl, inr, append-nil}
 use Rattle.std.specs.Prelude.{IsFalse, IsTrue, None, Option, Some, if◌then◌else◌}
 use Rattle.std.specs.Str.{bytes_eq}
-use Rattle.std.proofs.lemmas.Bool.{and_from, cases_Bool, eq-eqb, false≢true, or_cases, or_left, or_right, true≢false}
+use Rattle.std.proofs.lemmas.Bool.{and_from, cases_Bool, eq-eqb, or_cases}
 use Rattle.aft_model.specs.declared.caller.Attempt.{Attempt}
 use Rattle.aft_model.specs.declared.caller.By.{By}
 use Rattle.aft_model.specs.declared.caller.Hold.{Hold}
@@ -17,7 +17,7 @@ use Rattle.aft_model.specs.Claims.{holds}
 use Rattle.aft_model.specs.LegalDoor.{Legal}
 use Rattle.aft_model.specs.Membership.{is_up}
 use Rattle.aft_model.specs.NodeSights.{is_fenced}
-use Rattle.aft_model.specs.NodeState.{IsServing, NodeState, Service, boots, node_state, part, serves}
+use Rattle.aft_model.specs.NodeState.{NodeState, boots, node_state, part, serves}
 use Rattle.aft_model.proofs.Incarnations.{part-at}
 use Rattle.aft_model.proofs.Services.{serving}
 use Rattle.aft_model.proofs.Sights.{bytes_eq-refl}
@@ -32,7 +32,7 @@ use Rattle.aft_lines.specs.Lines.{lines, node_numbers}
 use Rattle.aft_lines.specs.Progress.{NotBegun, Progress}
 use Rattle.aft_lines.specs.RunsSoFar.{position_of}
 use Rattle.aft_lines.specs.Steps.{Made, own_steps}
-use Rattle.aft_lines.specs.Turns.{Turn, turns}
+use Rattle.aft_lines.specs.Turns.{turns}
 use Rattle.aft_lines.specs.Views.{view_of}
 use Rattle.aft_node.specs.Closing.{MayClose, act_passes, last_own, opens_begin}
 use Rattle.aft_turns.specs.Trail.{Trail}
@@ -50,7 +50,6 @@ use Rattle.law_runs.proofs.InStages.{kept_behind}
 use Rattle.law_runs.proofs.LegalRuns.{so_far_goes}
 use Rattle.law_runs.proofs.Own.{come_somewhere, own_are}
 use Rattle.law_steps.proofs.Histories.{door_is}
-use Rattle.law_steps.specs.Histories.{history_in}
 use Rattle.law_held.proofs.DeskHeld.{among_itself}
 use Rattle.law_held.proofs.OwnSteps.{moved_by}
 use Rattle.law_held.proofs.Serving.{serves_up}
