@@ -15,5 +15,6 @@ mod versions;
 
 pub use fault::AuditFault;
 pub use opening::audit;
+pub use reading::record_in;
 pub use sound::offender;
 pub use upgrading::upgrade;

@@ -36,8 +36,8 @@ fn if_spelled<T: Drop>(alloc: Global, text: &str, name: Name, value: T) -> Resul
     Ok(Some(value))
 }
 
-/// The commit whose record bytes are, where they stand under its name.
-pub(crate) fn record_in(alloc: Global, name: &str, bytes: &[u8]) -> Result<Option<Commit>, Memory>
+/// The commit whose record bytes are, in either format, where they stand under its name, and else `None`.
+pub fn record_in(alloc: Global, name: &str, bytes: &[u8]) -> Result<Option<Commit>, Memory>
     ensures read { IfOk result (λ found. as_list found ≡ records_in (pair_of name.now bytes.now)) }
     ensures limits { IfOk result (λ found. IfSome found IsCommit) }
 {

@@ -3,6 +3,6 @@ mod Ended
 mod Ending
 mod Led
 mod Once
-mod Picked
+pub mod Picked
 mod Reading
 mod Stands

@@ -107,7 +107,7 @@ fetches_open position f is = refl
 -- ---- an attempt that is there
 
 -- its node serves its incarnation
-there_serves : (node capacity : ℕ) (history : List NodeEntry) (a : Attempt) → LegalNode node capacity history → IsFalse (is_gone (attempt_state a (part history))) → IsTrue (serves a.inc (node_state history))
+pub there_serves : (node capacity : ℕ) (history : List NodeEntry) (a : Attempt) → LegalNode node capacity history → IsFalse (is_gone (attempt_state a (part history))) → IsTrue (serves a.inc (node_state history))
 there_serves node capacity history a legal there = by_state (node_state history) refl
   where
     nothing_there : part history ≡ [] → ⊥

@@ -1,0 +1,15 @@
+pub mod BootCauses
+pub mod BootSees
+pub mod BootStands
+pub mod Crashing
+pub mod CrashStands
+pub mod DoorTurns
+pub mod Entries
+pub mod Leading
+pub mod Led
+pub mod Looked
+pub mod NodeTurns
+pub mod PageRuns
+pub mod Pairs
+pub mod Shown
+pub mod Ups

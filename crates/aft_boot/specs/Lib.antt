@@ -1,0 +1,5 @@
+pub mod Booted
+pub mod BootView
+pub mod CrashView
+pub mod Crashed
+pub mod Pages

@@ -1,0 +1,16 @@
+//! The lines that take a node down and bring it up, turn by turn: a crash shuts the node's incarnation out of the door, and the node
+//! forgets; a start brings the next incarnation up, and reads all records by pages, and the node serves what they show. Neither knows
+//! what else goes on at the node or at the door between its turns.
+#![tactic(auto)]
+
+mod boot;
+mod comings;
+mod crash;
+mod fencing;
+mod pages;
+mod reading;
+mod stage;
+mod turns;
+
+pub use boot::Boot;
+pub use crash::Crash;

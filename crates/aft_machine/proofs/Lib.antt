@@ -1,0 +1,5 @@
+mod Clocks
+mod Promised
+mod PutCaused
+mod PutStands
+mod PutTurn

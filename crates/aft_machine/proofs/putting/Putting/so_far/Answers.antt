@@ -1,0 +1,14 @@
+use Rattle.aft_machine.proofs.PutStands.{ends_so, goes_so, sees_so, unanswered_so}
+use Rattle.aft_machine.proofs.putting.Putting.so_far.Goals as goal
+
+pub returns-clause-goes : goal.returns-clause-goes
+returns-clause-goes c capacity trail view made ran = goes_so c.args.self.now.by c.args.self.now.hold c.args.self.now.key c.args.self.now.value c.args.self.now.stage capacity trail view made ran
+
+pub returns-clause-unanswered : goal.returns-clause-unanswered
+returns-clause-unanswered c capacity trail view made ran left = unanswered_so c.args.self.now.by c.args.self.now.hold c.args.self.now.key c.args.self.now.value c.args.self.now.stage capacity trail view made ran left
+
+pub returns-clause-ends : goal.returns-clause-ends
+returns-clause-ends c capacity trail view made ran done = ends_so c.args.self.now.by c.args.self.now.hold c.args.self.now.key c.args.self.now.value c.args.self.now.stage capacity trail view made ran done
+
+pub returns-clause-sees : goal.returns-clause-sees
+returns-clause-sees c trail seen made = sees_so c.args.self.now.by c.args.self.now.hold c.args.self.now.key c.args.self.now.value c.args.self.now.stage trail seen made

@@ -1,0 +1,4 @@
+pub mod Asks
+pub mod OneNode
+pub mod PutMade
+pub mod PutView

@@ -1,0 +1,163 @@
+//! Any line that keeps to one node and the door.
+
+ghost use Rattle.std.specs.Option.{ForSome};
+ghost use Rattle.std.specs.Prelude.{◌≡◌, ◌≤◌, ◌<◌, ℕ, IfOk, IsTrue, List, Option};
+ghost use Rattle.aft_keeper.specs.Cause.{HasCause};
+ghost use Rattle.aft_lines.specs.LegalTrace.{is_clock_time};
+ghost use Rattle.aft_machine.specs.Asks.{IsStorable, Knows, MayCall, MayEnd, may_close, told_fault};
+ghost use Rattle.aft_machine.specs.OneNode.{GivesSo, HasMachine, Holds, by_of, command_of, hold_behind, is_over, left_of, made_of, next_of};
+ghost use Rattle.aft_model.specs.DoorKnowledge.{is_open};
+ghost use Rattle.aft_model.specs.declared.caller.Hold.{Hold};
+ghost use Rattle.aft_turns.specs.Steps.{FrontsWithin, SameStore, StepsAtDoor, StepsAtNode};
+ghost use Rattle.aft_turns.specs.Trail.{Trail, no_trail};
+ghost use Rattle.aft_turns.specs.declared.turn.Where.TheVariants as places;
+ghost use Rattle.law_driver.specs.Driven.{Promises};
+
+use crate::putting::Putting;
+use aft_begin::{Begin, Forget};
+use aft_commit::Finish;
+use aft_door::Door;
+use aft_id::Memory;
+use aft_keeper::Keeper;
+use aft_model::{By, Command, Hold};
+use aft_node::Node;
+use aft_read::Read;
+use aft_turns::Where;
+use std::alloc::Global;
+
+/// The machine of a line that keeps to one node and the door. Contracts see that of its own kind.
+#[derive(Drop)]
+pub enum Machine {
+    Begin(Begin),
+    /// A forget, and what its client holds.
+    Forget(Forget, Hold),
+    Read(Read),
+    /// A commit or an abort.
+    Finish(Finish),
+    Put(Putting),
+}
+
+impl Machine {
+    /// The machine of a line that asks this, of a client that holds this, of which nothing is done. `Memory` comes only where a
+    /// key or a value has to be copied.
+    pub fn new(alloc: Global, by: By, hold: Hold, order: &Command) -> Result<Machine, Memory>
+        requires node { ForSome hold.attempt (λ a. a.node ≡ hold.node) }
+        requires kind { HasMachine order.now }
+        ensures by { IfOk result (λ machine. by_of machine ≡ by) }
+        ensures command { IfOk result (λ machine. command_of machine ≡ order.now) }
+        ensures held { IfOk result (λ machine. Holds machine hold) }
+        ensures made { IfOk result (λ machine. (capacity clock : ℕ) → made_of capacity clock machine no_trail) }
+    {
+        Ok(match order {
+            Command::Begin { uuid, node } => { Machine::Begin(Begin::new(alloc, by, *node, *uuid)) }
+            Command::Forget { uuid, node } => {
+                Machine::Forget(Forget::new(alloc, by, *node, *uuid), hold)
+            }
+            Command::Put { key, value } => {
+                Machine::Put(Putting::new(by, hold, key.clone()?, value.clone()?))
+            }
+            Command::Get { key } => Machine::Read(Read::new(alloc, by, hold, key.clone()?)),
+            Command::Commit => Machine::Finish(Finish::commit(alloc, by, hold)),
+            Command::Abort => Machine::Finish(Finish::abort(alloc, by, hold)),
+            _ => unreachable!(),
+        })
+    }
+
+    /// Where its next turn is made.
+    pub fn next(&self) -> Where
+        ensures { result ≡ next_of self.now }
+    {
+        match self {
+            Machine::Begin(line) => line.next(),
+            Machine::Forget(line, _) => line.next(),
+            Machine::Read(line) => line.next(),
+            Machine::Finish(line) => line.next(),
+            Machine::Put(line) => line.next(),
+        }
+    }
+
+    /// How many turns are left at most: 39 at first.
+    pub fn left(&self) -> u32
+        ensures { result ≡ left_of self.now }
+    {
+        match self {
+            Machine::Begin(line) => line.left(),
+            Machine::Forget(line, _) => line.left(),
+            Machine::Read(line) => line.left(),
+            Machine::Finish(line) => line.left(),
+            Machine::Put(line) => line.left(),
+        }
+    }
+
+    /// What its client holds behind the line: of a begin that is over its node and the attempt that it gives, and of any other
+    /// line what it held before.
+    pub fn hold(&self) -> Hold
+        ensures { result ≡ hold_behind self.now }
+    {
+        match self {
+            Machine::Begin(line) => line.hold(),
+            Machine::Forget(_, hold) => *hold,
+            Machine::Read(line) => line.hold(),
+            Machine::Finish(line) => line.hold(),
+            Machine::Put(line) => line.hold(),
+        }
+    }
+
+    /// Its turn at the node, whose line has seen so many of the door's entries, at this time of the clock (milliseconds since 1970).
+    pub fn at_node(&mut self, node: &mut Node, front: u64, now: u64)
+        requires next { next_of self.old ≡ places.Node node.old.number }
+        requires room { 1 ≤ node.old.room }
+        requires own { may_close self.old node.old.history }
+        ensures by { by_of self.new ≡ by_of self.old }
+        ensures command { command_of self.new ≡ command_of self.old }
+        ensures held { (hold : Hold) → Holds self.old hold → Holds self.new hold }
+        ensures left { left_of self.new < left_of self.old }
+        ensures steps { (clock : ℕ) → MayEnd now clock self.old node.old.history → StepsAtNode (by_of self.old) front (made_of node.old.capacity clock self.old) (made_of node.old.capacity clock self.new) node.old node.new }
+    {
+        match self {
+            Machine::Begin(line) => line.at_node(node, front, now),
+            Machine::Forget(line, _) => line.at_node(node, front, now),
+            Machine::Read(line) => line.at_node(node, front, now),
+            Machine::Finish(line) => line.at_node(node, front, now),
+            Machine::Put(line) => line.at_node(node, front, now),
+        }
+    }
+
+    /// Its turn at the door. A put has none.
+    pub fn at_door<K: Keeper>(&mut self, door: &mut Door<K>)
+        requires next { next_of self.old ≡ places.Door }
+        requires open { IsTrue (is_open door.old.history) }
+        requires storable { IsStorable self.old }
+        requires knows { Knows self.old door.old.history }
+        ensures by { by_of self.new ≡ by_of self.old }
+        ensures command { command_of self.new ≡ command_of self.old }
+        ensures held { (hold : Hold) → Holds self.old hold → Holds self.new hold }
+        ensures left { left_of self.new < left_of self.old }
+        ensures steps { (capacity clock : ℕ) → MayCall self.old door.old.history → StepsAtDoor (by_of self.old) (λ trail. made_of capacity clock self.old trail × FrontsWithin door.old.history trail.turns) (made_of capacity clock self.new) door.old.history door.new.history }
+        ensures cause { HasCause (IsTrue (told_fault self.old self.new)) door.old.faults door.new.faults }
+        ensures store { SameStore door.old door.new }
+    {
+        match self {
+            Machine::Begin(line) => line.at_door(door),
+            Machine::Forget(line, _) => line.at_door(door),
+            Machine::Read(line) => line.at_door(door),
+            Machine::Finish(line) => line.at_door(door),
+            Machine::Put(_) => unreachable!(),
+        }
+    }
+
+    /// What it promises of its line, by the turns that it has made, for whoever drives it. What a begin that is over gives its client
+    /// is what the last turn says.
+    pub fn promises(&self)
+        ensures promises { (hold : Hold) (capacity time : ℕ) (clock : Option ℕ) (trail : Trail) → Holds self.now hold → IsTrue (is_clock_time clock time) → made_of capacity time self.now trail → Promises (by_of self.now) (command_of self.now) hold capacity clock (is_over self.now) trail }
+        ensures gives { (capacity time : ℕ) (trail : Trail) → made_of capacity time self.now trail → next_of self.now ≡ places.Done → GivesSo self.now trail.turns }
+    {
+        match self {
+            Machine::Begin(line) => line.so_far(),
+            Machine::Forget(line, _) => line.so_far(),
+            Machine::Read(line) => line.so_far(),
+            Machine::Finish(line) => line.so_far(),
+            Machine::Put(line) => line.so_far(),
+        }
+    }
+}

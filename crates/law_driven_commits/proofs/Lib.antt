@@ -1,0 +1,5 @@
+pub mod Calls
+pub mod LastActs
+pub mod Closes
+pub mod Moves
+pub mod Served

@@ -1,0 +1,26 @@
+-- A commit or an abort that is a line's machine, and what it asks of its next turn.
+use Rattle.std.specs.Prelude.{IsTrue, List, ◌≡◌}
+use Rattle.aft_model.specs.declared.caller.Hold.{Hold}
+use Rattle.aft_model.specs.declared.door.DoorEntry.{DoorEntry}
+use Rattle.aft_model.specs.declared.script.Line.{Line}
+use Rattle.aft_model.specs.DoorKnowledge.{is_open}
+use Rattle.aft_ledger.specs.View.{NodeView}
+use Rattle.aft_lines.specs.FinishedText.{line_of}
+use Rattle.aft_commit.specs.Asks.{MayCall, may_close}
+use Rattle.aft_commit.specs.Made.{command_of}
+use Rattle.aft_commit.specs.View.{FinishView, next_of}
+use Rattle.aft_turns.specs.declared.turn.Where.TheVariants as places
+
+-- a commit or an abort is the machine of a line whose client holds this: it is of that line, which asks for it
+pub record IsFinishOf (line : Line) (hold : Hold) (finish : FinishView) : Type 0 where
+  pub by : finish.by ≡ line_of line
+  pub held : finish.hold ≡ hold
+  pub asks : line.order ≡ command_of finish.aborts
+
+-- what a commit or an abort asks of its next turn, where that is at this node: its line's last entry there opened what it closes, and a commit that it tells is committed was stored by the line
+abbrev pub MayCloseAtNode : FinishView → NodeView → Type 0
+MayCloseAtNode finish node = next_of finish ≡ places.Node node.number → may_close finish node.history
+
+-- what it knows of the run where its next turn is at the door: its attempt's incarnation, unless it was fenced, is up and holds the UUID, and the door is open
+abbrev pub MayCallAtDoor : FinishView → List DoorEntry → Type 0
+MayCallAtDoor finish door = next_of finish ≡ places.Door → MayCall finish door × IsTrue (is_open door)
