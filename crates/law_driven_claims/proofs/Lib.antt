@@ -1,0 +1,4 @@
+pub mod Opens
+pub mod Positions
+pub mod Standing
+pub mod Goes
