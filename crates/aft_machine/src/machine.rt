@@ -4,10 +4,12 @@ ghost use Rattle.std.specs.Option.{ForSome};
 ghost use Rattle.std.specs.Prelude.{◌≡◌, ◌≤◌, ◌<◌, ℕ, IfOk, IsTrue, List, Option};
 ghost use Rattle.aft_keeper.specs.Cause.{HasCause};
 ghost use Rattle.aft_lines.specs.LegalTrace.{is_clock_time};
+ghost use Rattle.aft_lines.specs.LineView.{LineView};
 ghost use Rattle.aft_machine.specs.Asks.{IsStorable, Knows, MayCall, MayEnd, may_close, told_fault};
 ghost use Rattle.aft_machine.specs.OneNode.{GivesSo, HasMachine, Holds, by_of, command_of, hold_behind, is_over, left_of, made_of, next_of};
 ghost use Rattle.aft_model.specs.DoorKnowledge.{is_open};
 ghost use Rattle.aft_model.specs.declared.caller.Hold.{Hold};
+ghost use Rattle.aft_turns.specs.Stands.{IsUnanswered, RanSo};
 ghost use Rattle.aft_turns.specs.Steps.{FrontsWithin, SameStore, StepsAtDoor, StepsAtNode};
 ghost use Rattle.aft_turns.specs.Trail.{Trail, no_trail};
 ghost use Rattle.aft_turns.specs.declared.turn.Where.TheVariants as places;
@@ -146,10 +148,11 @@ impl Machine {
         }
     }
 
-    /// What it promises of its line, by the turns that it has made, for whoever drives it. What a begin that is over gives its client
-    /// is what the last turn says.
+    /// What it promises of its line, by the turns that it has made, for whoever drives it. While a turn is left none has answered. What
+    /// a begin that is over gives its client is what the last turn says.
     pub fn promises(&self)
         ensures promises { (hold : Hold) (capacity time : ℕ) (clock : Option ℕ) (trail : Trail) → Holds self.now hold → IsTrue (is_clock_time clock time) → made_of capacity time self.now trail → Promises (by_of self.now) (command_of self.now) hold capacity clock (is_over self.now) trail }
+        ensures unanswered { (hold : Hold) (capacity time : ℕ) (trail : Trail) (view : LineView) → Holds self.now hold → made_of capacity time self.now trail → RanSo (command_of self.now) hold capacity trail view → 1 ≤ left_of self.now → IsUnanswered view }
         ensures gives { (capacity time : ℕ) (trail : Trail) → made_of capacity time self.now trail → next_of self.now ≡ places.Done → GivesSo self.now trail.turns }
     {
         match self {

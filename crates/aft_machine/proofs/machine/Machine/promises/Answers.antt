@@ -1,10 +1,11 @@
-use Rattle.std.proofs.Common.{sym, ◌≡◌, subst, ℕ}
+use Rattle.std.proofs.Common.{sym, ◌≡◌, ◌≤◌, subst, ℕ}
 use Rattle.std.specs.Prelude.{IsTrue, Option}
 use Rattle.aft_lines.specs.LegalTrace.{is_clock_time}
 use Rattle.aft_model.specs.declared.caller.Hold.{Hold}
-use Rattle.aft_machine.specs.OneNode.{Holds, by_of, command_of, is_over, made_of, next_of}
+use Rattle.aft_machine.specs.OneNode.{Holds, by_of, command_of, is_over, left_of, made_of, next_of}
 use Rattle.aft_machine.specs.declared.machine.Machine.{Machine}
 use Rattle.aft_machine.specs.declared.machine.Machine.TheVariants.{Begin, Finish, Forget, Put, Read}
+use Rattle.aft_turns.specs.Stands.{IsUnanswered, RanSo}
 use Rattle.aft_machine.proofs.Promised.{promised}
 use Rattle.aft_machine.proofs.Clocks.{claim_reads, finish_reads, get_reads, put_reads}
 use Rattle.law_driver.specs.Driven.{Promises}
@@ -57,3 +58,29 @@ returns-in-Put-clause-promises c hold capacity time clock trail holds told =
     (λ view ran is done looked. c.so_far-in-Put.ensures.ends capacity trail view made ran done)
     (λ seen sees. c.so_far-in-Put.ensures.sees trail seen made)
     (put_reads clock c.in-Put.line.by c.in-Put.line.hold c.in-Put.line.key c.in-Put.line.value c.in-Put.line.stage trail made))) holds
+
+pub returns-in-Begin-clause-unanswered : goal.returns-in-Begin-clause-unanswered
+returns-in-Begin-clause-unanswered c hold capacity time trail view holds =
+    subst (λ (m : Machine). made_of capacity time m trail → RanSo (command_of m) hold capacity trail view → 1 ≤ left_of m → IsUnanswered view) (sym c.in-Begin.is) (λ made ran left. c.so_far.ensures.unanswered hold capacity trail view made ran left)
+
+pub returns-in-Forget-clause-unanswered : goal.returns-in-Forget-clause-unanswered
+returns-in-Forget-clause-unanswered c hold capacity time trail view holds =
+    subst (λ (m : Machine). made_of capacity time m trail → RanSo (command_of m) hold capacity trail view → 1 ≤ left_of m → IsUnanswered view) (sym c.in-Forget.is) (λ made ran left. c.so_far-in-Forget.ensures.unanswered hold capacity trail view made ran left)
+
+pub returns-in-Read-clause-unanswered : goal.returns-in-Read-clause-unanswered
+returns-in-Read-clause-unanswered c hold capacity time trail view holds =
+    subst (λ (m : Machine). Holds m hold → made_of capacity time m trail → RanSo (command_of m) hold capacity trail view → 1 ≤ left_of m → IsUnanswered view) (sym c.in-Read.is) (λ same made.
+    subst (λ (h : Hold). RanSo (command_of (Read c.in-Read.line)) h capacity trail view → 1 ≤ left_of (Read c.in-Read.line) → IsUnanswered view) same
+    (λ ran left. c.so_far-in-Read.ensures.unanswered capacity trail view made ran left)) holds
+
+pub returns-in-Finish-clause-unanswered : goal.returns-in-Finish-clause-unanswered
+returns-in-Finish-clause-unanswered c hold capacity time trail view holds =
+    subst (λ (m : Machine). Holds m hold → made_of capacity time m trail → RanSo (command_of m) hold capacity trail view → 1 ≤ left_of m → IsUnanswered view) (sym c.in-Finish.is) (λ same made.
+    subst (λ (h : Hold). RanSo (command_of (Finish c.in-Finish.line)) h capacity trail view → 1 ≤ left_of (Finish c.in-Finish.line) → IsUnanswered view) same
+    (λ ran left. c.so_far-in-Finish.ensures.unanswered time capacity trail view made ran left)) holds
+
+pub returns-in-Put-clause-unanswered : goal.returns-in-Put-clause-unanswered
+returns-in-Put-clause-unanswered c hold capacity time trail view holds =
+    subst (λ (m : Machine). Holds m hold → made_of capacity time m trail → RanSo (command_of m) hold capacity trail view → 1 ≤ left_of m → IsUnanswered view) (sym c.in-Put.is) (λ same made.
+    subst (λ (h : Hold). RanSo (command_of (Put c.in-Put.line)) h capacity trail view → 1 ≤ left_of (Put c.in-Put.line) → IsUnanswered view) same
+    (λ ran left. c.so_far-in-Put.ensures.unanswered capacity trail view made ran left)) holds
