@@ -1,0 +1,40 @@
+-- A start that is a line's machine, what it asks of its next turn, and where starts stand in a run.
+use Rattle.std.specs.Prelude.{Bool, IsTrue, List, None, Option, Some, not, true, ◌||◌, ◌≡◌}
+use Rattle.aft_model.specs.declared.door.DoorEntry.{DoorEntry}
+use Rattle.aft_model.specs.declared.script.Command.TheVariants as commands
+use Rattle.aft_model.specs.declared.script.Line.{Line}
+use Rattle.aft_model.specs.DoorKnowledge.{is_open}
+use Rattle.aft_model.specs.Membership.{Incarnation}
+use Rattle.aft_model.specs.NodeSights.{is_fenced}
+use Rattle.aft_door.specs.Refusals.{is_past}
+use Rattle.aft_ledger.specs.View.{NodeView}
+use Rattle.aft_lines.specs.Asked.{Asked, Ran}
+use Rattle.aft_lines.specs.FinishedText.{line_of}
+use Rattle.aft_lines.specs.RunsSoFar.{position_of}
+use Rattle.aft_lines.specs.Views.{each_view}
+use Rattle.aft_boot.specs.Booted.{MayCall, may_close}
+use Rattle.aft_boot.specs.BootView.{BootView, next_of}
+use Rattle.aft_turns.specs.declared.turn.Where.TheVariants as places
+use Rattle.law_held.specs.Starting.{is_start, to_come_up}
+
+-- a start is the machine of a line, which asks for its node
+pub record IsStartOf (line : Line) (boot : BootView) : Type 0 where
+  pub by : boot.by ≡ line_of line
+  pub asks : line.order ≡ commands.Start boot.node
+
+-- what a start asks of its next turn, where that is at this node: its line's last entry there opened what it closes
+abbrev pub MayCloseAtNode : BootView → NodeView → Type 0
+MayCloseAtNode boot node = next_of boot ≡ places.Node node.number → may_close boot node.history
+
+-- and where it is at the door: its incarnation may come up, or has come up, and the door is open
+abbrev pub MayCallAtDoor : BootView → List DoorEntry → Type 0
+MayCallAtDoor boot door = next_of boot ≡ places.Door → MayCall boot door × IsTrue (is_open door)
+
+-- whether an incarnation that is to come up was fenced, or neither it nor a newer one of its node was
+abbrev pub stands_newest : List DoorEntry → Option Incarnation → Bool
+stands_newest door None = true
+stands_newest door (Some who) = is_fenced who door || not (is_past who.node who.inc door)
+
+-- whether each start stands so
+abbrev pub StartsAreNewest : Asked → Ran → Type 0
+StartsAreNewest asked ran = IsTrue (each_view (λ view. not (is_start view.command) || stands_newest ran.trace.door (to_come_up (position_of view))) asked ran)

@@ -1,0 +1,25 @@
+//! Laws of driven starts, as calls that do nothing and promise them.
+
+ghost use Rattle.aft_model.specs.declared.caller.Hold.{Hold};
+ghost use Rattle.aft_model.specs.declared.script.Line.{Line};
+ghost use Rattle.aft_ledger.specs.View.{NodeView};
+ghost use Rattle.aft_lines.specs.Asked.{Asked, Ran};
+ghost use Rattle.aft_boot.specs.Booted.{Made};
+ghost use Rattle.aft_boot.specs.BootView.{BootView};
+ghost use Rattle.aft_turns.specs.Trail.{Trail};
+ghost use Rattle.law_accounts.specs.Account.{Account, Stand};
+ghost use Rattle.law_driver.specs.Driven.{Driven, IsNode};
+ghost use Rattle.law_driven_starts.specs.Starts.{IsStartOf, MayCallAtDoor, MayCloseAtNode, StartsAreNewest};
+
+/// In a run that has an account, where a start is to bring an incarnation up that wasn't fenced, neither was a newer one of its
+/// node.
+pub fn starts_are_newest()
+    ensures { (asked : Asked) (ran : Ran) (stand : Line → Stand) → Account asked ran stand → StartsAreNewest asked ran }
+{}
+
+/// A start that a driver runs has what its machine asks of its next turn: at its node, which has all that the run's node of that
+/// number has, that it may close its boot; and at the run's door.
+pub fn starts_may_go_on()
+    ensures at_node { (asked : Asked) (ran : Ran) (stand : Line → Stand) (line : Line) (hold : Hold) (trail : Trail) (boot : BootView) (node : NodeView) → Driven asked ran stand line hold trail → IsStartOf line boot → Made boot trail → IsNode asked ran node → MayCloseAtNode boot node }
+    ensures at_door { (asked : Asked) (ran : Ran) (stand : Line → Stand) (line : Line) (hold : Hold) (trail : Trail) (boot : BootView) → Driven asked ran stand line hold trail → IsStartOf line boot → Made boot trail → MayCallAtDoor boot ran.trace.door }
+{}
