@@ -1,8 +1,8 @@
 -- A start that a driver runs has what its machine asks of its next turn.
-use Rattle.std.proofs.Common.{◌≡◌, ℕ, Bool, true, false, ◌&&◌, ◌||◌, not, List, [], ◌∷◌, ◌++◌, refl, sym, ap, subst, ◌∙◌, ◌⊎◌, inl, inr, eqb, length}
+use Rattle.std.proofs.Common.{◌≡◌, ℕ, Bool, true, false, ◌&&◌, ◌||◌, not, List, [], ◌∷◌, ◌++◌, refl, sym, ap, subst, ◌∙◌, inl, inr, eqb, length}
 use Rattle.std.specs.Prelude.{IsTrue, None, Option, Some, map}
 use Rattle.std.specs.List.{flat_map, fold, list_all, list_any}
-use Rattle.std.proofs.lemmas.Bool.{and_from, and_parts, eq-eqb, false≢true, or_cases, or_left, or_right}
+use Rattle.std.proofs.lemmas.Bool.{and_from, and_parts, eq-eqb, false≢true, or_left, or_right}
 use Rattle.aft_model.specs.declared.caller.By.{By}
 use Rattle.aft_model.specs.declared.caller.Hold.{Hold}
 use Rattle.aft_model.specs.declared.door.DoorAct.TheVariants as doors
@@ -23,14 +23,13 @@ use Rattle.aft_ledger.specs.View.{NodeView}
 use Rattle.aft_door.specs.Refusals.{is_past}
 use Rattle.aft_lines.specs.Advance.{leads_to}
 use Rattle.aft_lines.specs.Asked.{Asked, Ran}
-use Rattle.aft_lines.specs.CourseWords.{Ends}
 use Rattle.aft_lines.specs.FinishedText.{line_of}
 use Rattle.aft_lines.specs.LineView.{door_entry_in, ends_of}
 use Rattle.aft_lines.specs.Lines.{lines, node_numbers}
 use Rattle.aft_lines.specs.RunsSoFar.{position_of}
 use Rattle.aft_lines.specs.Turns.{AtDoor, AtNode, AtOffice, Turn, turns}
 use Rattle.aft_lines.specs.Views.{view_of}
-use Rattle.aft_node.specs.Closing.{MayClose, act_passes, last_own, opens_boot}
+use Rattle.aft_node.specs.Closing.{act_passes, last_own, opens_boot}
 use Rattle.aft_node.specs.declared.goes.BootEnd.{BootEnd}
 use Rattle.aft_node.specs.declared.goes.BootEnd.TheVariants.{Refused, Shown}
 use Rattle.aft_boot.specs.Booted.{HasBegun, HasComeUp, IsToEnd, Made, PageAt, StopsAt, listed_on, made_at, may_call_at, may_close_at, page_turn, up_turns}
