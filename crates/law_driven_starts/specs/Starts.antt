@@ -1,9 +1,13 @@
 -- A start that is a line's machine, what it asks of its next turn, and where starts stand in a run.
-use Rattle.std.specs.Prelude.{Bool, IsTrue, List, None, Option, Some, not, true, ◌||◌, ◌≡◌}
+use Rattle.std.specs.Prelude.{Bool, IsTrue, List, None, Option, Some, [], not, true, ◌||◌, ◌≡◌}
 use Rattle.aft_model.specs.declared.door.DoorEntry.{DoorEntry}
+use Rattle.aft_model.specs.declared.node.NodeAct.{NodeAct}
+use Rattle.aft_model.specs.declared.node.NodeAct.TheVariants as acts
+use Rattle.aft_model.specs.declared.node.NodeEntry.{NodeEntry}
 use Rattle.aft_model.specs.declared.script.Command.TheVariants as commands
 use Rattle.aft_model.specs.declared.script.Line.{Line}
 use Rattle.aft_model.specs.DoorKnowledge.{is_open}
+use Rattle.aft_model.specs.History.{each_after}
 use Rattle.aft_model.specs.Membership.{Incarnation}
 use Rattle.aft_model.specs.NodeSights.{is_fenced}
 use Rattle.aft_door.specs.Refusals.{is_past}
@@ -12,6 +16,7 @@ use Rattle.aft_lines.specs.Asked.{Asked, Ran}
 use Rattle.aft_lines.specs.FinishedText.{line_of}
 use Rattle.aft_lines.specs.RunsSoFar.{position_of}
 use Rattle.aft_lines.specs.Views.{each_view}
+use Rattle.aft_node.specs.Closing.{act_passes, last_own, opens_boot}
 use Rattle.aft_boot.specs.Booted.{MayCall, may_close}
 use Rattle.aft_boot.specs.BootView.{BootView, next_of}
 use Rattle.aft_turns.specs.declared.turn.Where.TheVariants as places
@@ -29,6 +34,19 @@ MayCloseAtNode boot node = next_of boot ≡ places.Node node.number → may_clos
 -- and where it is at the door: its incarnation may come up, or has come up, and the door is open
 abbrev pub MayCallAtDoor : BootView → List DoorEntry → Type 0
 MayCallAtDoor boot door = next_of boot ≡ places.Door → MayCall boot door × IsTrue (is_open door)
+
+-- whether an act that ends a boot is of a line that, by its last entry there, began that
+abbrev pub ends_own_at : Option NodeAct → NodeAct → Bool
+ends_own_at last (acts.Boot inc commits) = act_passes (opens_boot inc) last
+ends_own_at last (acts.BootStopped inc) = act_passes (opens_boot inc) last
+ends_own_at last act = true
+
+abbrev pub ends_own_boot : List NodeEntry → NodeEntry → Bool
+ends_own_boot history entry = ends_own_at (last_own entry.by history) entry.act
+
+-- each boot of a node's history is ended by the line that began it
+abbrev pub EndsOwnBoots : List NodeEntry → Type 0
+EndsOwnBoots history = IsTrue (each_after ends_own_boot [] history)
 
 -- whether an incarnation that is to come up was fenced, or neither it nor a newer one of its node was
 abbrev pub stands_newest : List DoorEntry → Option Incarnation → Bool
