@@ -13,6 +13,8 @@ use Rattle.aft_model.specs.declared.reply.Reply.{Reply}
 use Rattle.aft_model.specs.declared.script.Command.{Command}
 use Rattle.aft_model.specs.declared.script.Command.TheVariants as commands
 use Rattle.aft_model.specs.declared.script.Line.{Line}
+use Rattle.aft_model.specs.declared.node.NodeEntry.{NodeEntry}
+use Rattle.aft_model.specs.LegalNode.{LegalNode}
 use Rattle.aft_model.specs.Membership.{Incarnation, incarnation, is_up, same_incarnation, ups}
 use Rattle.aft_model.specs.NodeSights.{comes_up, is_fenced, own_entries}
 use Rattle.aft_model.specs.ScanRun.{same_line}
@@ -32,7 +34,7 @@ use Rattle.aft_lines.specs.Views.{view_of}
 use Rattle.aft_node.specs.Closing.{act_passes, last_own, opens_boot}
 use Rattle.aft_node.specs.declared.goes.BootEnd.{BootEnd}
 use Rattle.aft_node.specs.declared.goes.BootEnd.TheVariants.{Refused, Shown}
-use Rattle.aft_boot.specs.Booted.{HasBegun, HasComeUp, IsToEnd, Made, PageAt, StopsAt, listed_on, made_at, may_call_at, may_close_at, page_turn, up_turns}
+use Rattle.aft_boot.specs.Booted.{HasBegun, HasComeUp, IsToEnd, Made, PageAt, StopsAt, listed_on, made_at, may_call_at, may_close_at, may_end_at, page_turn, up_turns}
 use Rattle.aft_boot.specs.BootView.{BootView, next_at}
 use Rattle.aft_boot.specs.declared.stage.Stage.{Stage}
 use Rattle.aft_boot.specs.declared.stage.Stage.TheVariants.{Begins, ComesUp, Ended, Ends as ToEnd, Scans}
@@ -40,6 +42,7 @@ use Rattle.aft_boot.proofs.Entries.{AreDoor, both_door, is_door, pages_door, up_
 use Rattle.aft_turns.specs.Trail.{Trail}
 use Rattle.aft_turns.specs.declared.turn.Where.TheVariants as places
 use Rattle.law_runs.proofs.LegalRuns.{so_far_goes}
+use Rattle.law_runs.proofs.Nodes.{nodes_rules}
 use Rattle.law_held.specs.Starting.{is_start, stands_alone, to_come_up}
 use Rattle.law_held.proofs.Fetches.{any_more}
 use Rattle.law_held.proofs.Serving.{came_up}
@@ -47,8 +50,10 @@ use Rattle.law_held.proofs.StartsEnd.{starts_stand}
 use Rattle.law_accounts.specs.Account.{Stand}
 use Rattle.law_accounts.specs.Adding.{numbered_in}
 use Rattle.law_accounts.proofs.Runs.{account_runs}
+use Rattle.law_accounts.proofs.StopsSeen.{same_history}
 use Rattle.law_driver.specs.Driven.{Driven, IsNode, act_behind, last_act, node_of}
-use Rattle.law_driven_starts.specs.Starts.{IsStartOf, MayCallAtDoor, MayCloseAtNode, stands_newest}
+use Rattle.law_driven_starts.specs.Starts.{EndsOwnBoots, IsStartOf, MayCallAtDoor, MayCloseAtNode, MayEndAtNode, stands_newest}
+use Rattle.law_driven_starts.proofs.Ends.{own_boots}
 use Rattle.law_driven_starts.proofs.Newest.{starts_newest}
 
 number_is : (one other : ℕ) → places.Node one ≡ places.Node other → one ≡ other
@@ -102,6 +107,21 @@ module _ (asked : Asked) (ran : Ran) (stand : Line → Stand) (line : Line) (hol
     by_node (ComesUp inc) made next = tt
     by_node (Scans inc after listed commits) made next = tt
     by_node Ended made next = tt
+
+    legal : LegalNode node.number asked.settings.cache node.history
+    legal =
+        subst (λ (h : List NodeEntry). LegalNode node.number asked.settings.cache h) (sym (is.history ∙ same_history node.number 1 ran.trace.nodes))
+        (nodes_rules node.number 1 asked.settings.cache ran.trace.door ran.trace.nodes driven.account.nodes).0
+
+    by_end : EndsOwnBoots node.history → (stage : Stage) → made_at boot.by boot.node stage trail → next_at boot.node stage ≡ places.Node node.number → may_end_at stage node.history
+    by_end ends (ToEnd inc end) made next = own_boots node.number asked.settings.cache boot.by inc node.history legal ends (by_node (ToEnd inc end) made next)
+    by_end ends Begins made next = tt
+    by_end ends (ComesUp inc) made next = tt
+    by_end ends (Scans inc after listed commits) made next = tt
+    by_end ends Ended made next = tt
+
+    pub at_end : Made boot trail → EndsOwnBoots node.history → MayEndAtNode boot node
+    at_end made ends next = by_end ends boot.stage made next
 
     pub at_node : Made boot trail → MayCloseAtNode boot node
     at_node made next = by_node boot.stage made next

@@ -1,3 +1,3 @@
 pub mod Newest
-pub mod Goes
 pub mod Ends
+pub mod Goes

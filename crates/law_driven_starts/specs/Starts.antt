@@ -17,7 +17,7 @@ use Rattle.aft_lines.specs.FinishedText.{line_of}
 use Rattle.aft_lines.specs.RunsSoFar.{position_of}
 use Rattle.aft_lines.specs.Views.{each_view}
 use Rattle.aft_node.specs.Closing.{act_passes, last_own, opens_boot}
-use Rattle.aft_boot.specs.Booted.{MayCall, may_close}
+use Rattle.aft_boot.specs.Booted.{MayCall, MayEnd, may_close}
 use Rattle.aft_boot.specs.BootView.{BootView, next_of}
 use Rattle.aft_turns.specs.declared.turn.Where.TheVariants as places
 use Rattle.law_held.specs.Starting.{is_start, to_come_up}
@@ -30,6 +30,10 @@ pub record IsStartOf (line : Line) (boot : BootView) : Type 0 where
 -- what a start asks of its next turn, where that is at this node: its line's last entry there opened what it closes
 abbrev pub MayCloseAtNode : BootView → NodeView → Type 0
 MayCloseAtNode boot node = next_of boot ≡ places.Node node.number → may_close boot node.history
+
+-- the node still boots what it ends, or has left that
+abbrev pub MayEndAtNode : BootView → NodeView → Type 0
+MayEndAtNode boot node = next_of boot ≡ places.Node node.number → MayEnd boot node.history
 
 -- and where it is at the door: its incarnation may come up, or has come up, and the door is open
 abbrev pub MayCallAtDoor : BootView → List DoorEntry → Type 0

@@ -16,7 +16,7 @@ ghost use Rattle.aft_boot.specs.BootView.{BootView};
 ghost use Rattle.aft_turns.specs.Trail.{Trail};
 ghost use Rattle.law_accounts.specs.Account.{Account, Stand};
 ghost use Rattle.law_driver.specs.Driven.{Driven, IsNode};
-ghost use Rattle.law_driven_starts.specs.Starts.{EndsOwnBoots, IsStartOf, MayCallAtDoor, MayCloseAtNode, StartsAreNewest};
+ghost use Rattle.law_driven_starts.specs.Starts.{EndsOwnBoots, IsStartOf, MayCallAtDoor, MayCloseAtNode, MayEndAtNode, StartsAreNewest};
 
 /// In a run that has an account, where a start is to bring an incarnation up that wasn't fenced, neither was a newer one of its
 /// node.
@@ -31,8 +31,10 @@ pub fn own_boots_run()
 {}
 
 /// A start that a driver runs has what its machine asks of its next turn: at its node, which has all that the run's node of that
-/// number has, that it may close its boot; and at the run's door.
+/// number has, that it may close its boot, and where each boot there is ended by the line that began it, that the node still boots
+/// the incarnation, or has left it; and at the run's door.
 pub fn starts_may_go_on()
     ensures at_node { (asked : Asked) (ran : Ran) (stand : Line → Stand) (line : Line) (hold : Hold) (trail : Trail) (boot : BootView) (node : NodeView) → Driven asked ran stand line hold trail → IsStartOf line boot → Made boot trail → IsNode asked ran node → MayCloseAtNode boot node }
+    ensures at_end { (asked : Asked) (ran : Ran) (stand : Line → Stand) (line : Line) (hold : Hold) (trail : Trail) (boot : BootView) (node : NodeView) → Driven asked ran stand line hold trail → IsStartOf line boot → Made boot trail → IsNode asked ran node → EndsOwnBoots node.history → MayEndAtNode boot node }
     ensures at_door { (asked : Asked) (ran : Ran) (stand : Line → Stand) (line : Line) (hold : Hold) (trail : Trail) (boot : BootView) → Driven asked ran stand line hold trail → IsStartOf line boot → Made boot trail → MayCallAtDoor boot ran.trace.door }
 {}
