@@ -1,16 +1,15 @@
 -- A line whose last entry at a node began a boot, where each boot is ended by the line that began it.
-use Rattle.std.proofs.Common.{◌≡◌, ℕ, suc, ◌≤◌, Bool, true, false, ◌&&◌, ◌||◌, not, List, [], ◌∷◌, ◌++◌, refl, sym, ap, subst, ◌∙◌, ◌⊎◌, inl, inr, eqb, arith, append-nil, append_assoc, max}
-use Rattle.std.specs.Prelude.{IsFalse, IsTrue, None, Option, Some, nat_le}
+use Rattle.std.proofs.Common.{◌≡◌, ℕ, suc, ◌≤◌, Bool, true, false, ◌&&◌, ◌||◌, not, List, [], ◌∷◌, ◌++◌, refl, sym, ap, subst, ◌∙◌, ◌⊎◌, inl, inr, eqb, arith, append-nil, append_assoc}
+use Rattle.std.specs.Prelude.{IsFalse, IsTrue, Option, nat_le}
 use Rattle.std.proofs.lemmas.Bool.{and_parts, cases_Bool, eq-eqb, eqb-true, false_from_ne_true, false≢true, or_left, or_right, true≢false}
 use Rattle.aft_records.specs.declared.stored.Commit.{Commit}
 use Rattle.aft_model.specs.declared.caller.By.{By}
 use Rattle.aft_model.specs.declared.node.NodeAct.{NodeAct}
 use Rattle.aft_model.specs.declared.node.NodeAct.TheVariants as acts
 use Rattle.aft_model.specs.declared.node.NodeEntry.{NodeEntry}
-use Rattle.aft_model.specs.declared.reply.Reply.{Reply}
 use Rattle.aft_model.specs.LegalNode.{LegalNode, front, may_be_done, may_follow_at}
 use Rattle.aft_model.specs.NodeRules.{may_begin_boot}
-use Rattle.aft_model.specs.NodeState.{IsBooting, IsDown, IsServing, NodeState, Service, boots, goes_on, newest, newest_after, node_state, serves, state_after, stopped}
+use Rattle.aft_model.specs.NodeState.{IsBooting, IsDown, IsServing, NodeState, boots, goes_on, newest, newest_after, node_state, state_after, stopped}
 use Rattle.aft_model.specs.ScanRun.{same_line}
 use Rattle.aft_model.proofs.Histories.{each_after_split}
 use Rattle.aft_model.proofs.Services.{newest-snoc, node_state-snoc}
@@ -19,6 +18,7 @@ use Rattle.aft_node.specs.Closing.{act_passes, last_own, opens_boot}
 use Rattle.law_claims.proofs.Scenes.{same_by}
 use Rattle.law_driver.proofs.Closing.{last_with_other, last_with_own}
 use Rattle.law_driven_starts.specs.Starts.{EndsOwnBoots, ends_own_at, ends_own_boot}
+use Rattle.law_driven_starts.proofs.Newest.{newer}
 
 -- a line's last entry began the boot of an incarnation
 abbrev Opens : ℕ → Option NodeAct → Type 0
@@ -99,10 +99,6 @@ module _ (node capacity : ℕ) where
     own_begun : (inc n : ℕ) (act : NodeAct) → IsTrue (opens_boot inc act) → inc ≤ newest_after n act
     own_begun inc n (acts.Booting j) is = (let same : inc ≡ j = eqb-true inc j is in omega arith)
     own_begun inc n act is = absurd (false≢true is)
-
-    newer : (n : ℕ) (act : NodeAct) → n ≤ newest_after n act
-    newer n (acts.Booting inc) = omega arith
-    newer n act = omega arith
 
     -- who began a boot now, where another line has begun it before
     none_twice : (by : By) (inc : ℕ) (act : NodeAct) → IsTrue (may_be_done node capacity history act entry.answer) → IsTrue (opens_boot inc act) → Opens inc (last_own by history) → ⊥

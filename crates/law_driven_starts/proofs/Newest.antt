@@ -59,7 +59,7 @@ use Rattle.law_driven_starts.specs.Starts.{StartsAreNewest, stands_newest}
 
 -- ---- the newest incarnation of a longer history isn't older
 
-newer : (n : ℕ) (act : NodeAct) → n ≤ newest_after n act
+pub newer : (n : ℕ) (act : NodeAct) → n ≤ newest_after n act
 newer n (acts.Booting inc) = omega arith
 newer n act = omega arith
 
@@ -195,7 +195,7 @@ module _ (asked : Asked) (ran : Ran) (stand : Line → Stand) (account : Account
   start_so command is = absurd (false≢true is)
 
   module _ (line : Line) (listed : In line (lines asked)) where
-    pub its_begun : IsTrue (is_start line.order) → (who : Incarnation) → to_come_up (position_of (view_of asked ran line)) ≡ Some who → IsBegun who
+    its_begun : IsTrue (is_start line.order) → (who : Incarnation) → to_come_up (position_of (view_of asked ran line)) ≡ Some who → IsBegun who
     its_begun start who is =
         let come = has_come asked ran so line listed in
         let home = start_so line.order start in
