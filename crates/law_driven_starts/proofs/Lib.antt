@@ -1,3 +1,4 @@
 pub mod Newest
 pub mod Ends
 pub mod Goes
+pub mod Courses

@@ -1,5 +1,5 @@
 -- A start that is a line's machine, what it asks of its next turn, and where starts stand in a run.
-use Rattle.std.specs.Prelude.{Bool, IsTrue, List, None, Option, Some, [], not, true, ◌||◌, ◌≡◌}
+use Rattle.std.specs.Prelude.{Bool, IsTrue, List, None, Option, Some, [], not, true, ◌||◌, ◌≡◌, ℕ}
 use Rattle.aft_model.specs.declared.door.DoorEntry.{DoorEntry}
 use Rattle.aft_model.specs.declared.node.NodeAct.{NodeAct}
 use Rattle.aft_model.specs.declared.node.NodeAct.TheVariants as acts
@@ -8,7 +8,7 @@ use Rattle.aft_model.specs.declared.script.Command.TheVariants as commands
 use Rattle.aft_model.specs.declared.script.Line.{Line}
 use Rattle.aft_model.specs.DoorKnowledge.{is_open}
 use Rattle.aft_model.specs.History.{each_after}
-use Rattle.aft_model.specs.Membership.{Incarnation}
+use Rattle.aft_model.specs.Membership.{Incarnation, incarnation, same_incarnation}
 use Rattle.aft_model.specs.NodeSights.{is_fenced}
 use Rattle.aft_door.specs.Refusals.{is_past}
 use Rattle.aft_ledger.specs.View.{NodeView}
@@ -51,6 +51,12 @@ ends_own_boot history entry = ends_own_at (last_own entry.by history) entry.act
 -- each boot of a node's history is ended by the line that began it
 abbrev pub EndsOwnBoots : List NodeEntry → Type 0
 EndsOwnBoots history = IsTrue (each_after ends_own_boot [] history)
+
+-- whether an act at a node, if it ends a boot, ends that of this incarnation
+abbrev pub ends_boot_of : Incarnation → ℕ → NodeAct → Bool
+ends_boot_of who node (acts.Boot inc commits) = same_incarnation who (incarnation node inc)
+ends_boot_of who node (acts.BootStopped inc) = same_incarnation who (incarnation node inc)
+ends_boot_of who node act = true
 
 -- whether an incarnation that is to come up was fenced, or neither it nor a newer one of its node was
 abbrev pub stands_newest : List DoorEntry → Option Incarnation → Bool
