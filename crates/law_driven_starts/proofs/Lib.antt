@@ -1,0 +1,4 @@
+pub mod Newest
+pub mod Ends
+pub mod Goes
+pub mod Courses
