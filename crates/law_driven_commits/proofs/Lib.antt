@@ -3,3 +3,5 @@ pub mod LastActs
 pub mod Closes
 pub mod Moves
 pub mod Served
+pub mod Stays
+pub mod Ends

@@ -6,7 +6,7 @@ use Rattle.aft_model.specs.declared.script.Line.{Line}
 use Rattle.aft_model.specs.DoorKnowledge.{is_open}
 use Rattle.aft_ledger.specs.View.{NodeView}
 use Rattle.aft_lines.specs.FinishedText.{line_of}
-use Rattle.aft_commit.specs.Asks.{MayCall, may_close}
+use Rattle.aft_commit.specs.Asks.{MayCall, MayEnd, may_close}
 use Rattle.aft_commit.specs.Made.{command_of}
 use Rattle.aft_commit.specs.View.{FinishView, next_of}
 use Rattle.aft_turns.specs.declared.turn.Where.TheVariants as places
@@ -20,6 +20,10 @@ pub record IsFinishOf (line : Line) (hold : Hold) (finish : FinishView) : Type 0
 -- what a commit or an abort asks of its next turn, where that is at this node: its line's last entry there opened what it closes, and a commit that it tells is committed was stored by the line
 abbrev pub MayCloseAtNode : FinishView → NodeView → Type 0
 MayCloseAtNode finish node = next_of finish ≡ places.Node node.number → may_close finish node.history
+
+-- and the attempt still does there what is to end, and so with the commit that its line is to store, or the node has left its incarnation
+abbrev pub MayEndAtNode : FinishView → NodeView → Type 0
+MayEndAtNode finish node = next_of finish ≡ places.Node node.number → MayEnd finish node.history
 
 -- what it knows of the run where its next turn is at the door: its attempt's incarnation, unless it was fenced, is up and holds the UUID, and the door is open
 abbrev pub MayCallAtDoor : FinishView → List DoorEntry → Type 0
