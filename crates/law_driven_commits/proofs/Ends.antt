@@ -78,7 +78,7 @@ absent_ends uuid c named (IsCommitting d) commits fixed =
 absent_ends uuid c named state commits fixed = absurd (false≢true commits)
 
 -- a turn of a line at a node is at the node that its client is of
-home_turn : (clock : ℕ) (hold : Hold) (aborts : Bool) (node : ℕ) (before : List NodeEntry) (entry : NodeEntry) (rest : List Turn) → IsTrue (list_all (is_own_silent clock hold aborts) (AtNode node before entry ∷ rest)) → hold.node ≡ node
+pub home_turn : (clock : ℕ) (hold : Hold) (aborts : Bool) (node : ℕ) (before : List NodeEntry) (entry : NodeEntry) (rest : List Turn) → IsTrue (list_all (is_own_silent clock hold aborts) (AtNode node before entry ∷ rest)) → hold.node ≡ node
 home_turn clock hold aborts node before entry rest own =
     let first = and_parts (is_own_silent clock hold aborts this) (list_all (is_own_silent clock hold aborts) rest) own in
     let mine = and_parts (is_own clock hold aborts this) (is_silent (answer_in this)) first.0 in

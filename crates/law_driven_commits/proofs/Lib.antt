@@ -5,3 +5,5 @@ pub mod Moves
 pub mod Served
 pub mod Stays
 pub mod Ends
+pub mod Knew
+pub mod Puts

@@ -105,7 +105,7 @@ module _ (by : By) (n : ℕ) (h : List NodeEntry) (e : NodeEntry) where
 
 -- ---- what was fixed
 
-fixed_there : (state : AttemptState) (c : Commit) → fixed_commit state ≡ Some c → IsFalse (is_gone state)
+pub fixed_there : (state : AttemptState) (c : Commit) → fixed_commit state ≡ Some c → IsFalse (is_gone state)
 fixed_there (IsCommitting d) c is = refl
 fixed_there (IsInDoubt d) c is = refl
 fixed_there state c is = absurd (let e : None ≡ Some c = is in cc)

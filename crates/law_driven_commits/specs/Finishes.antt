@@ -6,7 +6,7 @@ use Rattle.aft_model.specs.declared.script.Line.{Line}
 use Rattle.aft_model.specs.DoorKnowledge.{is_open}
 use Rattle.aft_ledger.specs.View.{NodeView}
 use Rattle.aft_lines.specs.FinishedText.{line_of}
-use Rattle.aft_commit.specs.Asks.{MayCall, MayEnd, may_close}
+use Rattle.aft_commit.specs.Asks.{MayCall, MayEnd, may_close, may_put}
 use Rattle.aft_commit.specs.Made.{command_of}
 use Rattle.aft_commit.specs.View.{FinishView, next_of}
 use Rattle.aft_turns.specs.declared.turn.Where.TheVariants as places
@@ -28,3 +28,7 @@ MayEndAtNode finish node = next_of finish ≡ places.Node node.number → MayEnd
 -- what it knows of the run where its next turn is at the door: its attempt's incarnation, unless it was fenced, is up and holds the UUID, and the door is open
 abbrev pub MayCallAtDoor : FinishView → List DoorEntry → Type 0
 MayCallAtDoor finish door = next_of finish ≡ places.Door → MayCall finish door × IsTrue (is_open door)
+
+-- and of a put: that the UUID was unused, and behind the versions, that each of them was put
+abbrev pub MayPutAtDoor : FinishView → List DoorEntry → Type 0
+MayPutAtDoor finish door = next_of finish ≡ places.Door → may_put finish door

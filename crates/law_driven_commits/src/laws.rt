@@ -22,15 +22,16 @@ ghost use Rattle.aft_lines.specs.Asked.{Asked, Ran};
 ghost use Rattle.aft_turns.specs.Trail.{Trail};
 ghost use Rattle.law_accounts.specs.Account.{Account, Stand};
 ghost use Rattle.law_driver.specs.Driven.{Driven, IsNode};
-ghost use Rattle.law_driven_commits.specs.Finishes.{IsFinishOf, MayCallAtDoor, MayCloseAtNode, MayEndAtNode};
+ghost use Rattle.law_driven_commits.specs.Finishes.{IsFinishOf, MayCallAtDoor, MayCloseAtNode, MayEndAtNode, MayPutAtDoor};
 
 /// A commit or an abort that a driver runs may close at its node what it closes there, where its attempt still does what is to
 /// end, unless the node has left its incarnation; and at the door, which is open, its attempt's incarnation is up and holds the
-/// UUID, unless it was fenced.
+/// UUID, unless it was fenced, and knows of a put what it must.
 pub fn finishes_may_go_on()
     ensures closes { (asked : Asked) (ran : Ran) (stand : Line → Stand) (line : Line) (hold : Hold) (trail : Trail) (finish : FinishView) (clock : ℕ) (node : NodeView) → Driven asked ran stand line hold trail → IsFinishOf line hold finish → Made clock finish trail → IsNode asked ran node → MayCloseAtNode finish node }
     ensures ends { (asked : Asked) (ran : Ran) (stand : Line → Stand) (line : Line) (hold : Hold) (trail : Trail) (finish : FinishView) (clock : ℕ) (node : NodeView) → Driven asked ran stand line hold trail → IsFinishOf line hold finish → Made clock finish trail → IsNode asked ran node → MayEndAtNode finish node }
     ensures calls { (asked : Asked) (ran : Ran) (stand : Line → Stand) (line : Line) (hold : Hold) (trail : Trail) (finish : FinishView) (clock : ℕ) → Driven asked ran stand line hold trail → IsFinishOf line hold finish → Made clock finish trail → MayCallAtDoor finish ran.trace.door }
+    ensures puts { (asked : Asked) (ran : Ran) (stand : Line → Stand) (line : Line) (hold : Hold) (trail : Trail) (finish : FinishView) (clock : ℕ) → Driven asked ran stand line hold trail → IsFinishOf line hold finish → Made clock finish trail → MayPutAtDoor finish ran.trace.door }
 {}
 
 /// While its node serves the attempt's incarnation, an attempt that a begin, a forget, a commit or an abort moves does what the

@@ -1,6 +1,7 @@
 use Rattle.law_driven_commits.proofs.Calls.{may_call}
 use Rattle.law_driven_commits.proofs.Closes.{closes}
 use Rattle.law_driven_commits.proofs.Ends.{ends}
+use Rattle.law_driven_commits.proofs.Puts.{may_put_so}
 use Rattle.law_driven_commits.proofs.laws.finishes_may_go_on.Goals as goal
 
 pub returns-clause-closes : goal.returns-clause-closes
@@ -11,3 +12,6 @@ returns-clause-ends c asked ran stand line hold trail finish clock node driven o
 
 pub returns-clause-calls : goal.returns-clause-calls
 returns-clause-calls c asked ran stand line hold trail finish clock driven of made = may_call asked ran stand line hold trail finish driven of clock made
+
+pub returns-clause-puts : goal.returns-clause-puts
+returns-clause-puts c asked ran stand line hold trail finish clock driven of made = may_put_so asked ran stand line hold trail finish driven of clock made
