@@ -1,5 +1,5 @@
 -- A commit or an abort that a driver runs may end at its node: its attempt still does what is to end, or the node has left its incarnation.
-use Rattle.std.proofs.Common.{◌≡◌, ℕ, Bool, true, false, ◌&&◌, ◌||◌, not, List, [], ◌∷◌, ◌++◌, refl, sym, ap, subst, ◌∙◌, inl, inr, append_assoc}
+use Rattle.std.proofs.Common.{◌≡◌, ℕ, Bool, true, false, ◌||◌, not, List, [], ◌∷◌, ◌++◌, refl, sym, ap, subst, ◌∙◌, inl, inr, append_assoc}
 use Rattle.std.specs.Prelude.{IsFalse, IsTrue, None, Option, Some}
 use Rattle.std.specs.List.{list_all}
 use Rattle.std.specs.Str.{bytes_eq}
@@ -8,13 +8,11 @@ use Rattle.aft_id.specs.declared.txn_id.TxnId.{TxnId}
 use Rattle.aft_id.specs.TxnId.{same_id}
 use Rattle.aft_records.specs.declared.stored.Commit.{Commit}
 use Rattle.aft_model.specs.declared.caller.Attempt.{Attempt}
-use Rattle.aft_model.specs.declared.caller.By.{By}
 use Rattle.aft_model.specs.declared.caller.Hold.{Hold}
-use Rattle.aft_model.specs.declared.door.DoorEntry.{DoorEntry}
 use Rattle.aft_model.specs.declared.node.NodeEntry.{NodeEntry}
 use Rattle.aft_model.specs.declared.reply.Reply.{Reply}
 use Rattle.aft_model.specs.declared.script.Line.{Line}
-use Rattle.aft_model.specs.Attempts.{AttemptState, IsCommitting, IsInDoubt, attempt_state, fixed_commit, is_committing, is_gone, uuid_of}
+use Rattle.aft_model.specs.Attempts.{AttemptState, IsCommitting, attempt_state, fixed_commit, is_committing, is_gone, uuid_of}
 use Rattle.aft_model.specs.LegalNode.{LegalNode}
 use Rattle.aft_model.specs.NodeRules.{is_storing}
 use Rattle.aft_model.specs.NodeState.{boots, node_state, part, serves}
@@ -30,11 +28,11 @@ use Rattle.aft_lines.specs.LegalTrace.{is_named, named_node}
 use Rattle.aft_lines.specs.LineView.{fixed_by, has_left}
 use Rattle.aft_lines.specs.Progress.{EndsAborted, EndsCommitted, EndsLeft, FoundAborted, HasFailed, IsNodeStored, IsRecorded, IsStoring, MustDoubt, MustEnd, Progress, Settling}
 use Rattle.aft_lines.specs.RunsSoFar.{position_of}
-use Rattle.aft_lines.specs.Turns.{AtNode, Turn, answer_in, turns}
+use Rattle.aft_lines.specs.Turns.{AtNode, Turn, answer_in}
 use Rattle.aft_lines.specs.Views.{view_of}
 use Rattle.aft_commit.specs.Asks.{may_end_at, may_end_with}
-use Rattle.aft_commit.specs.Made.{HasCome, LeadTo, Made, MayDoubt, command_of, ending_of, is_own, is_own_silent, made_at, storing_with, turn_reads}
-use Rattle.aft_commit.specs.Told.{HasBegun, IsToStore, ToldEnd, turn_at}
+use Rattle.aft_commit.specs.Made.{HasCome, Made, MayDoubt, command_of, ending_of, is_own, is_own_silent, made_at, storing_with, turn_reads}
+use Rattle.aft_commit.specs.Told.{IsToStore, ToldEnd}
 use Rattle.aft_commit.specs.View.{FinishView, next_at}
 use Rattle.aft_commit.specs.declared.outcome.Outcome.{Outcome}
 use Rattle.aft_commit.specs.declared.outcome.Outcome.TheVariants.{Absent, Left, Stored}
@@ -43,7 +41,7 @@ use Rattle.aft_commit.specs.declared.stage.Stage.TheVariants as stages
 use Rattle.aft_turns.specs.Stands.{is_right}
 use Rattle.aft_turns.specs.Trail.{Trail}
 use Rattle.aft_turns.specs.declared.turn.Where.TheVariants as places
-use Rattle.law_claims.specs.Doing.{attempt_at, is_doing, moves}
+use Rattle.law_claims.specs.Doing.{attempt_at, is_doing}
 use Rattle.law_claims.proofs.Scenes.{doing_there, moves_it}
 use Rattle.law_runs.proofs.Nodes.{nodes_rules}
 use Rattle.law_steps.specs.Histories.{history_in}

@@ -1,6 +1,6 @@
 -- What an attempt's incarnation knew of its UUID when the attempt began is known behind each later entry of its node.
 use Rattle.std.proofs.Common.{◌≡◌, ◌≤◌, ℕ, suc, zero, Bool, true, false, ◌&&◌, List, [], ◌∷◌, ◌++◌, take, length, refl, sym, ap, subst, ◌∙◌, inl, inr, append-nil, append_assoc, arith}
-use Rattle.std.specs.Prelude.{IsTrue, Option, if◌then◌else◌, nat_le}
+use Rattle.std.specs.Prelude.{IsTrue, if◌then◌else◌, nat_le}
 use Rattle.std.proofs.lemmas.Bool.{and_from, and_parts, cases_Bool, false≢true, leb-true, or_cases, or_left, or_right}
 use Rattle.std.proofs.lemmas.List.Sums.{fold-append}
 use Rattle.aft_model.specs.declared.caller.Attempt.{Attempt}
@@ -9,7 +9,6 @@ use Rattle.aft_model.specs.declared.door.DoorEntry.{DoorEntry}
 use Rattle.aft_model.specs.declared.node.NodeAct.{NodeAct}
 use Rattle.aft_model.specs.declared.node.NodeAct.TheVariants as acts
 use Rattle.aft_model.specs.declared.node.NodeEntry.{NodeEntry}
-use Rattle.aft_model.specs.declared.reply.Reply.{Reply}
 use Rattle.aft_model.specs.Attempts.{uuid_after, uuid_of}
 use Rattle.aft_model.specs.DoorKnowledge.{claims, finds_absent, knows_unused}
 use Rattle.aft_model.specs.History.{each_after, followed}
@@ -20,7 +19,7 @@ use Rattle.aft_model.specs.NodeState.{IsBooting, IsDown, IsServing, NodeState, S
 use Rattle.aft_model.specs.Readings.{marker_name, record_name}
 use Rattle.aft_model.specs.ScanRun.{same_line}
 use Rattle.aft_model.proofs.Growth.{unused_grows}
-use Rattle.aft_model.proofs.Histories.{In, each_after_snoc, each_after_split}
+use Rattle.aft_model.proofs.Histories.{each_after_snoc, each_after_split}
 use Rattle.aft_model.proofs.Incarnations.{part-at}
 use Rattle.aft_model.proofs.Pins.{same_attempts}
 use Rattle.aft_model.proofs.Services.{Begins, Boots, GoesDown, Moved, Serves, Waits, moved_by}

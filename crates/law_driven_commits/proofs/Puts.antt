@@ -1,5 +1,5 @@
 -- A commit that a driver runs knows of its next put what it must: its attempt's incarnation knew before the line that the UUID was unused.
-use Rattle.std.proofs.Common.{◌≡◌, ℕ, Bool, true, false, List, [], ◌∷◌, ◌++◌, length, refl, sym, ap, subst, ◌∙◌, inl, take, append_assoc, arith}
+use Rattle.std.proofs.Common.{◌≡◌, ℕ, Bool, true, false, List, [], ◌∷◌, ◌++◌, refl, sym, ap, subst, ◌∙◌, inl, take, append_assoc, arith}
 use Rattle.std.specs.Prelude.{IsFalse, IsTrue, None, Option, Some, filter, if◌then◌else◌, is_some, map}
 use Rattle.std.specs.List.{list_all}
 use Rattle.std.proofs.lemmas.List.Elements.{filter-append}
@@ -26,7 +26,7 @@ use Rattle.aft_lines.specs.FinishedText.{line_of}
 use Rattle.aft_lines.specs.LineView.{door_entry_in, fixed_by}
 use Rattle.aft_lines.specs.Progress.{Progress}
 use Rattle.aft_lines.specs.Steps.{Made as Step, door_steps, own_steps}
-use Rattle.aft_lines.specs.Turns.{AtDoor, AtNode, AtOffice, Turn, front_in, turns}
+use Rattle.aft_lines.specs.Turns.{AtDoor, AtNode, AtOffice, Turn, front_in}
 use Rattle.aft_commit.specs.Asks.{may_put_at}
 use Rattle.aft_commit.specs.Made.{HasCome, Made, is_own_silent, made_at}
 use Rattle.aft_commit.specs.Told.{IsToStore, entries_by}

@@ -1,6 +1,6 @@
 -- What a line's turn found at a node is a beginning of the node's history, and a commit that an attempt had fixed there stays while the attempt is there.
-use Rattle.std.proofs.Common.{◌≡◌, ◌≤◌, ℕ, suc, Bool, true, false, List, [], ◌∷◌, ◌++◌, refl, sym, ap, subst, ◌∙◌, inl, inr, eqb, append_assoc, arith}
-use Rattle.std.specs.Prelude.{IsFalse, IsTrue, None, Some, if◌then◌else◌}
+use Rattle.std.proofs.Common.{◌≡◌, ◌≤◌, ℕ, suc, Bool, true, false, List, [], ◌∷◌, ◌++◌, refl, sym, ap, ◌∙◌, inl, inr, eqb, append_assoc, arith}
+use Rattle.std.specs.Prelude.{IsFalse, None, Some, if◌then◌else◌}
 use Rattle.std.proofs.lemmas.Bool.{eq-eqb, eqb-true, false_from_ne_true}
 use Rattle.aft_records.specs.declared.stored.Commit.{Commit}
 use Rattle.aft_model.specs.declared.caller.Attempt.{Attempt}
@@ -11,7 +11,7 @@ use Rattle.aft_model.specs.declared.office.OfficeEntry.{OfficeEntry}
 use Rattle.aft_model.specs.declared.trace.Trace.{Trace}
 use Rattle.aft_model.specs.Attempts.{AttemptState, IsCommitting, IsInDoubt, attempt_state, fixed_commit, is_gone}
 use Rattle.aft_model.specs.LegalNode.{LegalNode, may_follow_at}
-use Rattle.aft_model.specs.NodeState.{node_state, part, serves}
+use Rattle.aft_model.specs.NodeState.{part}
 use Rattle.aft_model.specs.ScanRun.{same_line}
 use Rattle.aft_model.proofs.Histories.{In, each_after_split, in_append}
 use Rattle.aft_lines.specs.Turns.{AtDoor, AtNode, AtOffice, Turn, door_turns, node_turns, nodes_turns, office_turns, turns}
