@@ -7,3 +7,4 @@ pub mod Stays
 pub mod Ends
 pub mod Knew
 pub mod Puts
+pub mod Times

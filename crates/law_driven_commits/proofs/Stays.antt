@@ -93,15 +93,21 @@ module _ (by : By) (n : ℕ) (h : List NodeEntry) (e : NodeEntry) where
       at_here true (inr none) = none
       at_here false none = none
 
-  pub turn_stands : (trace : Trace) → In this (turns by trace) → GoesOn (history_in n 1 trace.nodes) h e
-  turn_stands trace among =
+  turn_is_at : (trace : Trace) → In this (turns by trace) → (1 ≤ n) × GoesOn (history_in n 1 trace.nodes) h e
+  turn_is_at trace among =
       elim (in_append this (nodes_turns by 1 trace.nodes ++ door_turns by 0 trace.door) (office_turns by [] trace.office) (turns_in by trace this among)) [
         | inl front ↦ elim (in_append this (nodes_turns by 1 trace.nodes) (door_turns by 0 trace.door) front) [
-          | inl here ↦ (at_nodes 1 trace.nodes here).1
+          | inl here ↦ at_nodes 1 trace.nodes here
           | inr door ↦ absurd (none_at_door 0 trace.door door)
         ]
         | inr office ↦ absurd (none_at_office [] trace.office office)
       ]
+
+  pub turn_stands : (trace : Trace) → In this (turns by trace) → GoesOn (history_in n 1 trace.nodes) h e
+  turn_stands trace among = (turn_is_at trace among).1
+
+  pub turn_numbered : (trace : Trace) → In this (turns by trace) → 1 ≤ n
+  turn_numbered trace among = (turn_is_at trace among).0
 
 -- ---- what was fixed
 
