@@ -1,14 +1,18 @@
 -- A commit that a driver runs knows of its next put what it must: its attempt's incarnation knew before the line that the UUID was unused.
-use Rattle.std.proofs.Common.{◌≡◌, ℕ, Bool, true, false, List, [], ◌∷◌, ◌++◌, refl, sym, ap, subst, ◌∙◌, inl, take, append_assoc, arith}
-use Rattle.std.specs.Prelude.{IsFalse, IsTrue, None, Option, Some, filter, if◌then◌else◌, is_some, map}
+use Rattle.std.proofs.Common.{◌≡◌, ◌≤◌, ℕ, Bool, true, false, List, [], ◌∷◌, ◌++◌, refl, sym, ap, subst, ◌∙◌, inl, take, append_assoc, arith}
+use Rattle.std.specs.Prelude.{◌≢◌, IsFalse, IsTrue, None, Option, Some, filter, if◌then◌else◌, is_some, map}
 use Rattle.std.specs.List.{list_all}
 use Rattle.std.proofs.lemmas.List.Elements.{filter-append}
 use Rattle.std.proofs.lemmas.List.Sums.{fold-append}
 use Rattle.aft_records.specs.declared.stored.Commit.{Commit}
+use Rattle.aft_records.specs.declared.stored.Record.{Record}
+use Rattle.aft_records.specs.Limits.{is_time}
 use Rattle.aft_model.specs.declared.caller.Attempt.{Attempt}
 use Rattle.aft_model.specs.declared.caller.By.{By}
 use Rattle.aft_model.specs.declared.caller.Hold.{Hold}
 use Rattle.aft_model.specs.declared.door.DoorEntry.{DoorEntry}
+use Rattle.aft_model.specs.declared.node.NodeAct.{NodeAct}
+use Rattle.aft_model.specs.declared.node.NodeAct.TheVariants as acts
 use Rattle.aft_model.specs.declared.node.NodeEntry.{NodeEntry}
 use Rattle.aft_model.specs.declared.script.Line.{Line}
 use Rattle.aft_model.specs.Attempts.{AttemptState, IsCommitting, IsInDoubt, attempt_state, fixed_commit, is_gone, is_opening, uuid_of}
@@ -18,17 +22,22 @@ use Rattle.aft_model.specs.LegalNode.{LegalNode, front, is_legal_node, may_follo
 use Rattle.aft_model.specs.Membership.{incarnation}
 use Rattle.aft_model.specs.NodeSights.{is_seen_node, may_come_at, own_entries}
 use Rattle.aft_model.specs.NodeState.{node_state, part, serves}
+use Rattle.aft_model.specs.Origins.{record_by}
 use Rattle.aft_model.specs.ScanRun.{same_line}
 use Rattle.aft_model.proofs.Histories.{In, each_after_split}
+use Rattle.aft_lines.specs.Advance.{leads_to}
 use Rattle.aft_lines.specs.Asked.{Asked, Ran}
+use Rattle.aft_lines.specs.CommitCourse.{Storing}
 use Rattle.aft_lines.specs.CourseWords.{caller_of}
 use Rattle.aft_lines.specs.FinishedText.{line_of}
-use Rattle.aft_lines.specs.LineView.{door_entry_in, fixed_by}
+use Rattle.aft_lines.specs.LineView.{door_entry_in, ends_of, fixed_by}
+use Rattle.aft_lines.specs.Lines.{node_numbers}
+use Rattle.aft_lines.specs.Views.{view_of}
 use Rattle.aft_lines.specs.Progress.{Progress}
 use Rattle.aft_lines.specs.Steps.{Made as Step, door_steps, own_steps}
-use Rattle.aft_lines.specs.Turns.{AtDoor, AtNode, AtOffice, Turn, front_in}
+use Rattle.aft_lines.specs.Turns.{AtDoor, AtNode, AtOffice, Turn, front_in, turns}
 use Rattle.aft_commit.specs.Asks.{may_put_at}
-use Rattle.aft_commit.specs.Made.{HasCome, Made, is_own_silent, made_at}
+use Rattle.aft_commit.specs.Made.{HasCome, Made, command_of, is_own_silent, made_at}
 use Rattle.aft_commit.specs.Told.{IsToStore, entries_by}
 use Rattle.aft_commit.specs.View.{FinishView}
 use Rattle.aft_commit.specs.declared.stage.Stage.{Stage}
@@ -44,12 +53,14 @@ use Rattle.law_runs.proofs.Own.{own_are}
 use Rattle.law_steps.specs.Histories.{history_in}
 use Rattle.law_accounts.specs.Account.{Stand}
 use Rattle.law_accounts.proofs.StopsSeen.{there_serves}
-use Rattle.law_driver.specs.Driven.{Driven}
-use Rattle.law_driven_commits.specs.Finishes.{IsFinishOf, MayPutAtDoor}
+use Rattle.law_driver.specs.Driven.{Driven, last_act}
+use Rattle.law_driven_commits.specs.Finishes.{IsFinishOf, MayPutAtDoor, StoresItsOwn, stores_own_at}
 use Rattle.law_driven_commits.proofs.Calls.{goes, its_kind}
 use Rattle.law_driven_commits.proofs.Ends.{home_turn}
 use Rattle.law_driven_commits.proofs.Knew.{all_knew}
-use Rattle.law_driven_commits.proofs.Stays.{fixed_there, turn_stands}
+use Rattle.law_driven_commits.proofs.LastActs.{FixesAt, LastAt, line_last}
+use Rattle.law_driven_commits.proofs.Stays.{fixed_there, turn_numbered, turn_stands}
+use Rattle.law_driven_commits.proofs.Times.{timely}
 
 -- ---- before a line's first turn it has made nothing at the door
 
@@ -89,6 +100,15 @@ fixed_past : (state : AttemptState) (c : Commit) → fixed_commit state ≡ Some
 fixed_past (IsCommitting d) c is = refl
 fixed_past (IsInDoubt d) c is = refl
 fixed_past state c is = absurd (let e : None ≡ Some c = is in cc)
+
+-- what is stored is the attempt's record of its commit behind what the first turn found
+abbrev Written : List NodeEntry → Storing → Type 0
+Written found storing = storing.written ≡ record_by storing.attempt (part found) storing.written.commit
+
+written_fixes : (found : List NodeEntry) (act : NodeAct) → FixesAt (Written found) found act
+written_fixes found (acts.Start a now c) = refl
+written_fixes found (acts.Settle a) = λ c is. refl
+written_fixes found act = tt
 
 module _ (asked : Asked) (ran : Ran) (stand : Line → Stand) (line : Line) (hold : Hold) (trail : Trail) (finish : FinishView) (driven : Driven asked ran stand line hold trail) (of : IsFinishOf line hold finish) (clock : ℕ) where
   abbrev by : By
@@ -137,8 +157,11 @@ module _ (asked : Asked) (ran : Ran) (stand : Line → Stand) (line : Line) (hol
 
     -- ---- what was known then
 
+    among : In (AtNode node found entry) (turns by ran.trace)
+    among = subst (λ (ts : List Turn). In (AtNode node found entry) ts) (sym (driven.own ∙ store.begun.turns)) (inl refl)
+
     on : (more : List NodeEntry) × (history_in node 1 ran.trace.nodes ≡ found ++ entry ∷ more)
-    on = turn_stands by node found entry ran.trace (subst (λ (ts : List Turn). In (AtNode node found entry) ts) (sym (driven.own ∙ store.begun.turns)) (inl refl))
+    on = turn_stands by node found entry ran.trace among
 
     whole : history_in node 1 ran.trace.nodes ≡ behind ++ on.0
     whole = on.1 ∙ sym (append_assoc found (entry ∷ []) on.0)
@@ -170,6 +193,23 @@ module _ (asked : Asked) (ran : Ran) (stand : Line → Stand) (line : Line) (hol
         (subst (λ (u : List ℕ). IsTrue (knows_unused (caller_of a) u (take (front behind) ran.trace.door))) (sym (fixed_uuid node asked.settings.cache a.inc behind legal serve a c fixed))
         (subst (λ (n : ℕ). IsTrue (knows_unused (incarnation n a.inc) (uuid_of a (part behind)) (take (front behind) ran.trace.door))) home (all_knew node asked.settings.cache ran.trace.door behind legal seen a has_begun_then)))
 
+    -- ---- what is stored
+
+    home_node : a.node ≢ 0
+    home_node none =
+        let least : 1 ≤ node = turn_numbered by node found entry ran.trace among in
+        let zero : node ≡ 0 = home ∙ none in
+        omega arith
+
+    in_time : IsTrue (is_time c.id.time)
+    in_time = timely node asked.settings.cache behind legal a c fixed
+
+    kept : LastAt (Written found) (last_act trail.turns) position
+    kept =
+        subst (λ (ts : List Turn). LastAt (Written found) (last_act ts) position) (sym store.begun.turns)
+        (line_last (Written found) finish.aborts (node_numbers asked.settings) (ends_of (view_of asked ran line)) node found entry store.begun.rest position (written_fixes found store.begun.act)
+        (ap (leads_to (command_of finish.aborts) (node_numbers asked.settings) (ends_of (view_of asked ran line))) (sym store.begun.turns) ∙ come.leads (node_numbers asked.settings) (ends_of (view_of asked ran line))))
+
   by_stage : (stage : Stage) → made_at clock finish.by finish.hold finish.aborts stage trail → may_put_at stage ran.trace.door
   by_stage (stages.Stores a r values count) made =
       let come = made.0.4 in
@@ -188,3 +228,25 @@ module _ (asked : Asked) (ran : Ran) (stand : Line → Stand) (line : Line) (hol
 
   pub may_put_so : Made clock finish trail → MayPutAtDoor finish ran.trace.door
   may_put_so made next = by_stage finish.stage made
+
+  stores_own : (stage : Stage) → made_at clock finish.by finish.hold finish.aborts stage trail → stores_own_at stage
+  stores_own (stages.Stores a r values count) made =
+      let come = made.0.4 in
+      let store = made.1.0 in
+      record {
+        node = home_node a _ r.commit come store;
+        own = ap (λ (x : Record). incarnation x.origin.node x.origin.inc) (kept a _ r.commit come store).1;
+        timely = in_time a _ r.commit come store;
+      }
+  stores_own stages.Begins made = tt
+  stores_own (stages.Settles a r values) made = tt
+  stores_own (stages.Failed a r) made = tt
+  stores_own (stages.Recorded a r) made = tt
+  stores_own (stages.Releases a uuid outcome) made = tt
+  stores_own (stages.Doubts a reply) made = tt
+  stores_own (stages.Ends a uuid outcome) made = tt
+  stores_own (stages.ShutOut a) made = tt
+  stores_own stages.Ended made = tt
+
+  pub stores_its_own : Made clock finish trail → StoresItsOwn finish
+  stores_its_own made = stores_own finish.stage made
