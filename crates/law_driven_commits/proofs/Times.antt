@@ -1,6 +1,6 @@
 -- The time of a commit that an attempt has fixed is in range.
-use Rattle.std.proofs.Common.{◌≡◌, ℕ, List, [], ◌∷◌, ◌++◌, sym, ap, subst, ◌∙◌}
-use Rattle.std.specs.Prelude.{IsFalse, IsTrue, None, Some}
+use Rattle.std.proofs.Common.{◌≡◌, ℕ, List, [], sym, ap, subst, ◌∙◌}
+use Rattle.std.specs.Prelude.{IsTrue, None, Some}
 use Rattle.std.proofs.lemmas.Bool.{and_parts}
 use Rattle.aft_records.specs.declared.stored.Commit.{Commit}
 use Rattle.aft_records.specs.Limits.{is_time}
@@ -8,7 +8,7 @@ use Rattle.aft_model.specs.declared.caller.Attempt.{Attempt}
 use Rattle.aft_model.specs.declared.node.NodeAct.{NodeAct}
 use Rattle.aft_model.specs.declared.node.NodeAct.TheVariants.{Start}
 use Rattle.aft_model.specs.declared.node.NodeEntry.{NodeEntry}
-use Rattle.aft_model.specs.Attempts.{AttemptState, IsGone, IsLeaving, IsOpening, IsRunning, attempt_after, attempt_state, fixed_commit, is_gone}
+use Rattle.aft_model.specs.Attempts.{IsGone, IsLeaving, IsOpening, IsRunning, attempt_after, attempt_state, fixed_commit}
 use Rattle.aft_model.specs.LegalNode.{LegalNode, may_serve}
 use Rattle.aft_model.specs.NodeRules.{may_start}
 use Rattle.aft_model.specs.NodeState.{Service, extended, node_state, part}
