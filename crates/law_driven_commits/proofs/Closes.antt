@@ -26,6 +26,7 @@ use Rattle.aft_model.proofs.Services.{node_state-snoc}
 use Rattle.aft_ledger.specs.View.{NodeView}
 use Rattle.aft_lines.specs.Advance.{leads_to}
 use Rattle.aft_lines.specs.Asked.{Asked, Ran}
+use Rattle.aft_lines.specs.CommitCourse.{Storing}
 use Rattle.aft_lines.specs.FinishedText.{line_of}
 use Rattle.aft_lines.specs.LineView.{ends_of, fixed_by}
 use Rattle.aft_lines.specs.Lines.{node_numbers}
@@ -56,8 +57,8 @@ some_commit c d e = cc
 -- ---- what a first turn fixes
 
 -- any is fixed so
-abbrev Any : Attempt → Commit → Type 0
-Any a c = Unit {0}
+abbrev Any : Storing → Type 0
+Any storing = Unit {0}
 
 any_fixes : (before : List NodeEntry) (act : NodeAct) → FixesAt Any before act
 any_fixes before (acts.Start a now c) = tt
@@ -69,8 +70,8 @@ tried (IsInDoubt d) c is = is
 tried state c is = is
 
 -- this attempt fixes this commit
-abbrev Only : Attempt → Commit → Attempt → Commit → Type 0
-Only a c b d = b ≡ a → d ≡ c
+abbrev Only : Attempt → Commit → Storing → Type 0
+Only a c storing = storing.attempt ≡ a → storing.written.commit ≡ c
 
 module _ (a : Attempt) (its : Commit) (before : List NodeEntry) (entry : NodeEntry) (fixed : fixed_commit (attempt_state a (part (before ++ entry ∷ []))) ≡ Some its) where
   abbrev fixed_in : NodeState → Option Commit
@@ -123,7 +124,7 @@ home false hold = refl
 
 module _ (asked : Asked) (ran : Ran) (stand : Line → Stand) (line : Line) (hold : Hold) (trail : Trail) (finish : FinishView) (driven : Driven asked ran stand line hold trail) (of : IsFinishOf line hold finish) (node : NodeView) (is : IsNode asked ran node) where
   -- a position, behind a first turn that fixes what is fixed so
-  last_at : (Fixed : Attempt → Commit → Type 0) (begun : HasBegun finish.by trail.turns) → FixesAt Fixed begun.before begun.act → (position : Progress) → LeadTo finish.aborts trail.turns position → LastAt Fixed (last_act trail.turns) position
+  last_at : (Fixed : Storing → Type 0) (begun : HasBegun finish.by trail.turns) → FixesAt Fixed begun.before begun.act → (position : Progress) → LeadTo finish.aborts trail.turns position → LastAt Fixed (last_act trail.turns) position
   last_at Fixed begun fixes position leads =
       subst (λ (ts : List Turn). LastAt Fixed (last_act ts) position) (sym begun.turns)
       (line_last Fixed finish.aborts (node_numbers asked.settings) (ends_of (view_of asked ran line)) begun.node begun.before (record { front = begun.front; by = finish.by; act = begun.act; answer = None }) begun.rest position fixes
@@ -147,7 +148,7 @@ module _ (asked : Asked) (ran : Ran) (stand : Line → Stand) (line : Line) (hol
     ]
       where
         same_ids : id ≡ stored.commit.id
-        same_ids = named ∙ (ap (λ (c : Commit). c.id) (sym (stored.its refl)) ∙ ap (λ (c : Commit). c.id) (same_commits stored.fixed stored.commit stored.same))
+        same_ids = named ∙ (ap (λ (c : Commit). c.id) (sym (stored.its stored.mine)) ∙ ap (λ (c : Commit). c.id) (same_commits stored.fixed.written.commit stored.commit stored.same))
 
         stores_so : IsTrue (stores a id (acts.Stored stored.one stored.commit))
         stores_so = and_from (same_attempt a stored.one) (same_id id stored.commit.id) (subst (Opened a) stored.is opened) (subst (λ (i : TxnId). IsTrue (same_id id i)) same_ids (same_id-refl id))

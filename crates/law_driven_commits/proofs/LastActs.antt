@@ -20,7 +20,7 @@ use Rattle.aft_model.specs.Attempts.{attempt_state, buffer, fixed_commit, same_a
 use Rattle.aft_model.specs.NodeState.{node_state, part}
 use Rattle.aft_model.specs.Stages.{is_acknowledged}
 use Rattle.aft_lines.specs.Advance.{advance, advance_finish, advanced, behind_failure, behind_settling, closed_by, doubted_by, finished_with, if_so, is_stored_in, leads_to, looked_by, noted_at_node, or_at, put_by, settled_with, shut_out_by, tells_outcome}
-use Rattle.aft_lines.specs.CommitCourse.{Storing, doubts, gets_record, is_release_of, is_version_of, is_written_as, leaves, puts_own, takes_away}
+use Rattle.aft_lines.specs.CommitCourse.{Storing, doubts, gets_record, is_release_of, is_version_of, is_written_as, leaves, puts_own, storing_of, takes_away}
 use Rattle.aft_lines.specs.CourseWords.{Ends, answers_down, any_answer, caller_of, ends_shut_out, finds_nothing, finds_record, tells_down, tells_no_memory, tells_refused}
 use Rattle.aft_lines.specs.Progress.{EndsAborted, EndsCommitted, EndsLeft, FoundAborted, HasFailed, IsNodeStored, IsOver, IsRecorded, IsStoring, MustDoubt, MustEnd, MustLeave, NotBegun, Progress, Settling, Stopped}
 use Rattle.aft_lines.specs.Turns.{AtDoor, AtNode, AtOffice, Turn}
@@ -38,19 +38,20 @@ Opened a act = IsTrue (act_passes (opens_finish a) act)
 same_some : (p q : Progress) → Some p ≡ Some q → p ≡ q
 same_some p q e = cc
 
--- what each attempt has fixed is such a commit
-module _ (Fixed : Attempt → Commit → Type 0) where
+-- what a first turn has fixed to store is such
+module _ (Fixed : Storing → Type 0) where
   -- an act stored the commit of an attempt
   pub record Stores (a : Attempt) (act : Option NodeAct) : Type 0 where
     pub one : Attempt
     pub commit : Commit
-    pub fixed : Commit
+    pub fixed : Storing
+    pub mine : fixed.attempt ≡ a
     pub is : act ≡ Some (acts.Stored one commit)
-    pub its : Fixed a fixed
-    pub same : IsTrue (same_commit fixed commit)
+    pub its : Fixed fixed
+    pub same : IsTrue (same_commit fixed.written.commit commit)
 
   abbrev Keeps : Storing → Option NodeAct → Type 0
-  Keeps storing act = Opened storing.attempt act × Fixed storing.attempt storing.written.commit
+  Keeps storing act = Opened storing.attempt act × Fixed storing
 
   -- the last act at the node, by a position
   abbrev pub LastAt : Option NodeAct → Progress → Type 0
@@ -139,13 +140,13 @@ module _ (Fixed : Attempt → Commit → Type 0) where
     or_last None other first second = second
     or_last (Some next) other first second = first
 
-    stored_last : (storing : Storing) (act : NodeAct) → Fixed storing.attempt storing.written.commit → IsTrue (is_stored_in storing act) → LastAt (Some act) (IsNodeStored storing)
+    stored_last : (storing : Storing) (act : NodeAct) → Fixed storing → IsTrue (is_stored_in storing act) → LastAt (Some act) (IsNodeStored storing)
     stored_last storing (acts.Stored b c) fixed is =
         let parts = and_parts (same_attempt storing.attempt b) (same_commit storing.written.commit c) is in
-        (parts.0, record { one = b; commit = c; fixed = storing.written.commit; is = refl; its = fixed; same = parts.1 })
+        (parts.0, record { one = b; commit = c; fixed = storing; mine = refl; is = refl; its = fixed; same = parts.1 })
     stored_last storing act fixed is = absurd (false≢true is)
 
-    store_last : (storing : Storing) → Fixed storing.attempt storing.written.commit → Behind (noted_at_node ends storing turn)
+    store_last : (storing : Storing) → Fixed storing → Behind (noted_at_node ends storing turn)
     store_last storing fixed =
         either_way Behind (eqb storing.attempt.node at && is_stored_in storing entry.act) (Some (IsNodeStored storing)) (doubted_by ends storing tells_no_memory turn)
         (λ is. stored_last storing entry.act fixed (and_parts (eqb storing.attempt.node at) (is_stored_in storing entry.act) is).1) (λ unlike. closed_last storing.attempt (doubts storing.attempt tells_no_memory))
@@ -195,11 +196,11 @@ module _ (Fixed : Attempt → Commit → Type 0) where
 
   -- what a first turn fixes is so
   abbrev pub FixesAt : List NodeEntry → NodeAct → Type 0
-  FixesAt before (acts.Start a now c) = Fixed a c
-  FixesAt before (acts.Settle a) = (c : Commit) → fixed_commit (attempt_state a (part before)) ≡ Some c → Fixed a c
+  FixesAt before (acts.Start a now c) = Fixed (storing_of a (part before) c)
+  FixesAt before (acts.Settle a) = (c : Commit) → fixed_commit (attempt_state a (part before)) ≡ Some c → Fixed (storing_of a (part before) c)
   FixesAt before act = Unit {0}
 
-  settles_last : (aborts : Bool) (a : Attempt) (before : List NodeEntry) (o : Option Commit) → ((c : Commit) → o ≡ Some c → Fixed a c) → LastIf (Some (acts.Settle a)) (settled_with aborts a (part before) o)
+  settles_last : (aborts : Bool) (a : Attempt) (before : List NodeEntry) (o : Option Commit) → ((c : Commit) → o ≡ Some c → Fixed (storing_of a (part before) c)) → LastIf (Some (acts.Settle a)) (settled_with aborts a (part before) o)
   settles_last aborts a before None so = tt
   settles_last aborts a before (Some c) so = (same_itself a, so c refl)
 

@@ -3,3 +3,8 @@ pub mod LastActs
 pub mod Closes
 pub mod Moves
 pub mod Served
+pub mod Stays
+pub mod Ends
+pub mod Knew
+pub mod Puts
+pub mod Times

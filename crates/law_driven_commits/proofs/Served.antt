@@ -1,11 +1,11 @@
 -- At the end of a run so far an attempt that a line moves does what the line's position asks, while its node serves its incarnation.
 use Rattle.std.proofs.Common.{◌≡◌, Bool, List, [], sym, ap, subst, ◌∙◌, append-nil}
-use Rattle.std.specs.Prelude.{IsTrue, Option, Some, if◌then◌else◌}
+use Rattle.std.specs.Prelude.{IsFalse, IsTrue, Option, Some, if◌then◌else◌}
 use Rattle.aft_model.specs.declared.caller.Attempt.{Attempt}
 use Rattle.aft_model.specs.declared.node.NodeEntry.{NodeEntry}
 use Rattle.aft_model.specs.declared.script.Line.{Line}
 use Rattle.aft_model.specs.Attempts.{attempt_state, uuid_of}
-use Rattle.aft_model.specs.NodeState.{node_state, serves}
+use Rattle.aft_model.specs.NodeState.{boots, node_state, serves}
 use Rattle.aft_model.proofs.Histories.{In}
 use Rattle.aft_model.proofs.Incarnations.{part-at}
 use Rattle.aft_model.proofs.Services.{serving}
@@ -56,3 +56,9 @@ module _ (asked : Asked) (ran : Ran) (stand : Line → Stand) (account : Account
       subst (λ (p : List NodeEntry). IsTrue (moves position a (attempt_state a p) (uuid_of a p))) (sym (part-at (history_in a.node 1 ran.trace.nodes) s.0 s.1))
       (subst (λ (p : Progress). IsTrue (moves p a (attempt_state a s.0.part) (uuid_of a s.0.part))) here
       (keeps.moved (line_of line) a (ap attempt_at here ∙ at) s.0 (ap node_state (node_all asked ran goes account.differ a.node) ∙ s.1) (sym s.2)))
+
+  -- and its incarnation boots no more
+  pub unbooted_since : (position : Progress) (a : Attempt) → position_of (view_of asked ran line) ≡ Some position → attempt_at position ≡ Some a → IsFalse (boots a.inc (node_state (history_in a.node 1 ran.trace.nodes)))
+  unbooted_since position a is at =
+      subst (λ (h : List NodeEntry). IsFalse (boots a.inc (node_state h))) (node_all asked ran goes account.differ a.node)
+      (keeps.known (line_of line) a (ap attempt_at (at_last position is) ∙ at)).unbooted

@@ -1,14 +1,21 @@
 -- A commit or an abort that is a line's machine, and what it asks of its next turn.
-use Rattle.std.specs.Prelude.{IsTrue, List, ◌≡◌}
+use Rattle.std.specs.Prelude.{IsTrue, List, ◌≡◌, ◌≢◌}
+use Rattle.aft_records.specs.declared.stored.Record.{Record}
+use Rattle.aft_records.specs.Limits.{IsTime}
+use Rattle.aft_model.specs.declared.caller.Attempt.{Attempt}
 use Rattle.aft_model.specs.declared.caller.Hold.{Hold}
 use Rattle.aft_model.specs.declared.door.DoorEntry.{DoorEntry}
 use Rattle.aft_model.specs.declared.script.Line.{Line}
 use Rattle.aft_model.specs.DoorKnowledge.{is_open}
+use Rattle.aft_model.specs.Membership.{incarnation}
 use Rattle.aft_ledger.specs.View.{NodeView}
+use Rattle.aft_lines.specs.CourseWords.{caller_of}
 use Rattle.aft_lines.specs.FinishedText.{line_of}
-use Rattle.aft_commit.specs.Asks.{MayCall, may_close}
+use Rattle.aft_commit.specs.Asks.{MayCall, MayEnd, may_close, may_put}
 use Rattle.aft_commit.specs.Made.{command_of}
 use Rattle.aft_commit.specs.View.{FinishView, next_of}
+use Rattle.aft_commit.specs.declared.stage.Stage.{Stage}
+use Rattle.aft_commit.specs.declared.stage.Stage.TheVariants.{Stores}
 use Rattle.aft_turns.specs.declared.turn.Where.TheVariants as places
 
 -- a commit or an abort is the machine of a line whose client holds this: it is of that line, which asks for it
@@ -21,6 +28,28 @@ pub record IsFinishOf (line : Line) (hold : Hold) (finish : FinishView) : Type 0
 abbrev pub MayCloseAtNode : FinishView → NodeView → Type 0
 MayCloseAtNode finish node = next_of finish ≡ places.Node node.number → may_close finish node.history
 
+-- and the attempt still does there what is to end, and so with the commit that its line is to store, or the node has left its incarnation
+abbrev pub MayEndAtNode : FinishView → NodeView → Type 0
+MayEndAtNode finish node = next_of finish ≡ places.Node node.number → MayEnd finish node.history
+
 -- what it knows of the run where its next turn is at the door: its attempt's incarnation, unless it was fenced, is up and holds the UUID, and the door is open
 abbrev pub MayCallAtDoor : FinishView → List DoorEntry → Type 0
 MayCallAtDoor finish door = next_of finish ≡ places.Door → MayCall finish door × IsTrue (is_open door)
+
+-- and of a put: that the UUID was unused, and behind the versions, that each of them was put
+abbrev pub MayPutAtDoor : FinishView → List DoorEntry → Type 0
+MayPutAtDoor finish door = next_of finish ≡ places.Door → may_put finish door
+
+-- a record that is put for an attempt names its incarnation, which is a node's, as its origin, and its time is in range
+pub record IsOwnRecord (a : Attempt) (r : Record) : Type 0 where
+  pub node : a.node ≢ 0
+  pub own : incarnation r.origin.node r.origin.inc ≡ caller_of a
+  pub timely : IsTime r.commit.id.time
+
+-- so is what a commit stores
+abbrev pub stores_own_at : Stage → Type 0
+stores_own_at (Stores a r values count) = IsOwnRecord a r
+stores_own_at stage = Unit {0}
+
+abbrev pub StoresItsOwn : FinishView → Type 0
+StoresItsOwn finish = stores_own_at finish.stage

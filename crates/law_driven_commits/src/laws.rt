@@ -22,17 +22,25 @@ ghost use Rattle.aft_lines.specs.Asked.{Asked, Ran};
 ghost use Rattle.aft_turns.specs.Trail.{Trail};
 ghost use Rattle.law_accounts.specs.Account.{Account, Stand};
 ghost use Rattle.law_driver.specs.Driven.{Driven, IsNode};
-ghost use Rattle.law_driven_commits.specs.Finishes.{IsFinishOf, MayCallAtDoor, MayCloseAtNode};
+ghost use Rattle.law_driven_commits.specs.Finishes.{IsFinishOf, MayCallAtDoor, MayCloseAtNode, MayEndAtNode, MayPutAtDoor, StoresItsOwn};
 
-/// A commit or an abort that a driver runs may close at its node what it closes there; and at the door, which is open, its
-/// attempt's incarnation is up and holds the UUID, unless it was fenced.
+/// A commit or an abort that a driver runs may close at its node what it closes there, where its attempt still does what is to
+/// end, unless the node has left its incarnation; and at the door, which is open, its attempt's incarnation is up and holds the
+/// UUID, unless it was fenced, and knows of a put what it must.
 pub fn finishes_may_go_on()
     ensures closes { (asked : Asked) (ran : Ran) (stand : Line → Stand) (line : Line) (hold : Hold) (trail : Trail) (finish : FinishView) (clock : ℕ) (node : NodeView) → Driven asked ran stand line hold trail → IsFinishOf line hold finish → Made clock finish trail → IsNode asked ran node → MayCloseAtNode finish node }
+    ensures ends { (asked : Asked) (ran : Ran) (stand : Line → Stand) (line : Line) (hold : Hold) (trail : Trail) (finish : FinishView) (clock : ℕ) (node : NodeView) → Driven asked ran stand line hold trail → IsFinishOf line hold finish → Made clock finish trail → IsNode asked ran node → MayEndAtNode finish node }
     ensures calls { (asked : Asked) (ran : Ran) (stand : Line → Stand) (line : Line) (hold : Hold) (trail : Trail) (finish : FinishView) (clock : ℕ) → Driven asked ran stand line hold trail → IsFinishOf line hold finish → Made clock finish trail → MayCallAtDoor finish ran.trace.door }
+    ensures puts { (asked : Asked) (ran : Ran) (stand : Line → Stand) (line : Line) (hold : Hold) (trail : Trail) (finish : FinishView) (clock : ℕ) → Driven asked ran stand line hold trail → IsFinishOf line hold finish → Made clock finish trail → MayPutAtDoor finish ran.trace.door }
 {}
 
 /// While its node serves the attempt's incarnation, an attempt that a begin, a forget, a commit or an abort moves does what the
 /// line's position asks, and is of its UUID, though the incarnation was fenced.
 pub fn served_attempts_do_as_asked()
     ensures { (asked : Asked) (ran : Ran) (stand : Line → Stand) (line : Line) (position : Progress) (a : Attempt) → Account asked ran stand → In line (lines asked) → IsTrue (is_of_attempt line.order) → position_of (view_of asked ran line) ≡ Some position → attempt_at position ≡ Some a → IsTrue (serves a.inc (node_state (history_in a.node 1 ran.trace.nodes))) → IsTrue (moves position a (attempt_state a (part_of_node a.node ran)) (uuid_of a (part_of_node a.node ran))) }
+{}
+
+/// What a commit that a driver runs is to put is of its attempt's incarnation, which is a node's, and of a time in range.
+pub fn commits_store_their_own()
+    ensures { (asked : Asked) (ran : Ran) (stand : Line → Stand) (line : Line) (hold : Hold) (trail : Trail) (finish : FinishView) (clock : ℕ) → Driven asked ran stand line hold trail → IsFinishOf line hold finish → Made clock finish trail → StoresItsOwn finish }
 {}
