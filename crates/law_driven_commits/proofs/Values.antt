@@ -1,6 +1,6 @@
 -- Each value that an attempt has buffered is one that the script puts, and so is as short as those are.
 use Rattle.std.proofs.Common.{◌≡◌, ℕ, Bool, true, false, List, [], ◌∷◌, ◌++◌, length, refl, sym, ap, subst, ◌∙◌, inl, inr, append-nil, append_assoc}
-use Rattle.std.specs.Prelude.{IsTrue, Option, if◌then◌else◌, map, nat_le}
+use Rattle.std.specs.Prelude.{IsTrue, if◌then◌else◌, map, nat_le}
 use Rattle.std.specs.List.{list_all}
 use Rattle.std.specs.Str.{bytes_eq}
 use Rattle.std.proofs.lemmas.Bool.{and_from, and_parts, false≢true}
@@ -25,18 +25,17 @@ use Rattle.aft_lines.specs.LegalTrace.{node_words, turn_words}
 use Rattle.aft_lines.specs.Lines.{lines}
 use Rattle.aft_lines.specs.Makes.{makes, makes_at_node}
 use Rattle.aft_lines.specs.Steps.{Made as Step}
-use Rattle.aft_lines.specs.Turns.{AtNode, Turn, turns}
+use Rattle.aft_lines.specs.Turns.{AtNode, turns}
 use Rattle.law_attempts.proofs.Acts.{buffer-snoc}
 use Rattle.law_runs.specs.Runs.{Goes, command_in, run_steps}
 use Rattle.law_runs.proofs.Come.{Named, named_line, unasked_reads}
 use Rattle.law_runs.proofs.Members.{in_turns, step_in}
-use Rattle.law_runs.proofs.Nodes.{nodes_rules}
 use Rattle.law_steps.specs.Histories.{history_in}
 use Rattle.law_held.proofs.Held.{stands_at}
 use Rattle.law_accounts.specs.Account.{Account, Stand}
 use Rattle.law_driven_commits.specs.Finishes.{PutsAreShort, puts_short}
 use Rattle.aft_model.proofs.Histories.{in_back}
-use Rattle.law_runs.proofs.Reading.{is_of_boot, reads_alone}
+use Rattle.law_runs.proofs.Reading.{is_of_boot}
 
 abbrev is_short_put : NodeAct → Bool
 is_short_put (acts.Put a key value) = nat_le (length value) 4096
