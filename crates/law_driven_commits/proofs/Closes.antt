@@ -51,7 +51,7 @@ use Rattle.law_driver.specs.Driven.{Driven, IsNode, last_act, node_of}
 use Rattle.law_driven_commits.specs.Finishes.{IsFinishOf, MayCloseAtNode}
 use Rattle.law_driven_commits.proofs.LastActs.{FixesAt, LastAt, Opened, Stores, line_last}
 
-some_commit : (c d : Commit) → Some c ≡ Some d → c ≡ d
+pub some_commit : (c d : Commit) → Some c ≡ Some d → c ≡ d
 some_commit c d e = cc
 
 -- ---- what a first turn fixes
@@ -113,7 +113,7 @@ last_any by test (e ∷ history) before act is so = cases (last_any by test hist
     cases (inl first) = by_line (same_line by e.by) refl first
     cases (inr there) = inr (or_right _ _ there)
 
-number_is : (one other : ℕ) → places.Node one ≡ places.Node other → one ≡ other
+pub number_is : (one other : ℕ) → places.Node one ≡ places.Node other → one ≡ other
 number_is one other is = cc
 
 home : (aborts : Bool) (hold : Hold) → node_of (command_of aborts) hold ≡ hold.node

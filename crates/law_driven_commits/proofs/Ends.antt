@@ -51,14 +51,9 @@ use Rattle.law_accounts.proofs.StopsSeen.{same_history}
 use Rattle.law_driver.specs.Driven.{Driven, IsNode}
 use Rattle.law_driven_commits.specs.Finishes.{IsFinishOf, MayEndAtNode}
 use Rattle.law_driven_commits.proofs.Calls.{its_kind, stands_at}
+use Rattle.law_driven_commits.proofs.Closes.{number_is, some_commit}
 use Rattle.law_driven_commits.proofs.Served.{moved_while_served, unbooted_since}
 use Rattle.law_driven_commits.proofs.Stays.{stays_fixed, turn_stands}
-
-number_is : (one other : ℕ) → places.Node one ≡ places.Node other → one ≡ other
-number_is one other is = cc
-
-same_commit_of : (c d : Commit) → Some c ≡ Some d → c ≡ d
-same_commit_of c d e = cc
 
 storing_commits : (c : Commit) (state : AttemptState) → IsTrue (is_storing c state) → IsTrue (is_committing state)
 storing_commits c (IsCommitting d) so = refl
@@ -67,12 +62,12 @@ storing_commits c state so = absurd (false≢true so)
 -- what commits what is fixed ends so
 stored_ends : (uuid : List ℕ) (id : TxnId) (c : Commit) → id ≡ c.id → (state : AttemptState) → IsTrue (is_committing state) → fixed_commit state ≡ Some c → IsTrue (may_end_with uuid (Stored id) state)
 stored_ends uuid id c named (IsCommitting d) commits fixed =
-    subst (λ (i : TxnId). IsTrue (same_id d.id i)) (ap (λ (x : Commit). x.id) (same_commit_of d c fixed) ∙ sym named) (same_id-refl d.id)
+    subst (λ (i : TxnId). IsTrue (same_id d.id i)) (ap (λ (x : Commit). x.id) (some_commit d c fixed) ∙ sym named) (same_id-refl d.id)
 stored_ends uuid id c named state commits fixed = absurd (false≢true commits)
 
 absent_ends : (uuid : List ℕ) (c : Commit) → uuid ≡ c.id.uuid → (state : AttemptState) → IsTrue (is_committing state) → fixed_commit state ≡ Some c → IsTrue (may_end_with uuid Absent state)
 absent_ends uuid c named (IsCommitting d) commits fixed =
-    subst (λ (u : List ℕ). IsTrue (bytes_eq uuid u)) (named ∙ ap (λ (x : Commit). x.id.uuid) (sym (same_commit_of d c fixed))) (bytes_eq-refl uuid)
+    subst (λ (u : List ℕ). IsTrue (bytes_eq uuid u)) (named ∙ ap (λ (x : Commit). x.id.uuid) (sym (some_commit d c fixed))) (bytes_eq-refl uuid)
 absent_ends uuid c named state commits fixed = absurd (false≢true commits)
 
 -- a turn of a line at a node is at the node that its client is of

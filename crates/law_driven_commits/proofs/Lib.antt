@@ -6,5 +6,6 @@ pub mod Served
 pub mod Stays
 pub mod Ends
 pub mod Knew
+pub mod Values
 pub mod Puts
 pub mod Times

@@ -1,6 +1,6 @@
 -- A commit that a driver runs knows of its next put what it must: its attempt's incarnation knew before the line that the UUID was unused.
-use Rattle.std.proofs.Common.{◌≡◌, ◌≤◌, ℕ, Bool, true, false, List, [], ◌∷◌, ◌++◌, refl, sym, ap, subst, ◌∙◌, inl, take, append_assoc, arith}
-use Rattle.std.specs.Prelude.{◌≢◌, IsFalse, IsTrue, None, Option, Some, filter, if◌then◌else◌, is_some, map}
+use Rattle.std.proofs.Common.{◌≡◌, ◌≤◌, ℕ, Bool, true, false, List, [], ◌∷◌, ◌++◌, refl, sym, ap, subst, ◌∙◌, inl, take, append_assoc, arith, length}
+use Rattle.std.specs.Prelude.{◌≢◌, IsFalse, IsTrue, None, Option, Some, filter, if◌then◌else◌, is_some, map, nat_le}
 use Rattle.std.specs.List.{list_all}
 use Rattle.std.proofs.lemmas.List.Elements.{filter-append}
 use Rattle.std.proofs.lemmas.List.Sums.{fold-append}
@@ -15,7 +15,7 @@ use Rattle.aft_model.specs.declared.node.NodeAct.{NodeAct}
 use Rattle.aft_model.specs.declared.node.NodeAct.TheVariants as acts
 use Rattle.aft_model.specs.declared.node.NodeEntry.{NodeEntry}
 use Rattle.aft_model.specs.declared.script.Line.{Line}
-use Rattle.aft_model.specs.Attempts.{AttemptState, IsCommitting, IsInDoubt, attempt_state, fixed_commit, is_gone, is_opening, uuid_of}
+use Rattle.aft_model.specs.Attempts.{AttemptState, IsCommitting, IsInDoubt, attempt_state, fixed_commit, is_gone, is_opening, uuid_of, Write, buffer}
 use Rattle.aft_model.specs.DoorKnowledge.{knows_unused}
 use Rattle.aft_model.specs.History.{first_of}
 use Rattle.aft_model.specs.LegalNode.{LegalNode, front, is_legal_node, may_follow_at}
@@ -54,13 +54,14 @@ use Rattle.law_steps.specs.Histories.{history_in}
 use Rattle.law_accounts.specs.Account.{Stand}
 use Rattle.law_accounts.proofs.StopsSeen.{there_serves}
 use Rattle.law_driver.specs.Driven.{Driven, last_act}
-use Rattle.law_driven_commits.specs.Finishes.{IsFinishOf, MayPutAtDoor, StoresItsOwn, stores_own_at}
+use Rattle.law_driven_commits.specs.Finishes.{IsFinishOf, MayPutAtDoor, PutsAreShort, StoresItsOwn, StoresShortValues, stores_own_at, stores_short_at}
 use Rattle.law_driven_commits.proofs.Calls.{goes, its_kind}
 use Rattle.law_driven_commits.proofs.Ends.{home_turn}
 use Rattle.law_driven_commits.proofs.Knew.{all_knew}
 use Rattle.law_driven_commits.proofs.LastActs.{FixesAt, LastAt, line_last}
 use Rattle.law_driven_commits.proofs.Stays.{fixed_there, turn_numbered, turn_stands}
 use Rattle.law_driven_commits.proofs.Times.{timely}
+use Rattle.law_driven_commits.proofs.Values.{shorts}
 
 -- ---- before a line's first turn it has made nothing at the door
 
@@ -101,13 +102,13 @@ fixed_past (IsCommitting d) c is = refl
 fixed_past (IsInDoubt d) c is = refl
 fixed_past state c is = absurd (let e : None ≡ Some c = is in cc)
 
--- what is stored is the attempt's record of its commit behind what the first turn found
+-- what is stored is the attempt's record of its commit, and what it has buffered, behind what the first turn found
 abbrev Written : List NodeEntry → Storing → Type 0
-Written found storing = storing.written ≡ record_by storing.attempt (part found) storing.written.commit
+Written found storing = (storing.written ≡ record_by storing.attempt (part found) storing.written.commit) × (storing.writes ≡ buffer storing.attempt (part found))
 
 written_fixes : (found : List NodeEntry) (act : NodeAct) → FixesAt (Written found) found act
-written_fixes found (acts.Start a now c) = refl
-written_fixes found (acts.Settle a) = λ c is. refl
+written_fixes found (acts.Start a now c) = (refl, refl)
+written_fixes found (acts.Settle a) = λ c is. (refl, refl)
 written_fixes found act = tt
 
 module _ (asked : Asked) (ran : Ran) (stand : Line → Stand) (line : Line) (hold : Hold) (trail : Trail) (finish : FinishView) (driven : Driven asked ran stand line hold trail) (of : IsFinishOf line hold finish) (clock : ℕ) where
@@ -210,6 +211,11 @@ module _ (asked : Asked) (ran : Ran) (stand : Line → Stand) (line : Line) (hol
         (line_last (Written found) finish.aborts (node_numbers asked.settings) (ends_of (view_of asked ran line)) node found entry store.begun.rest position (written_fixes found store.begun.act)
         (ap (leads_to (command_of finish.aborts) (node_numbers asked.settings) (ends_of (view_of asked ran line))) (sym store.begun.turns) ∙ come.leads (node_numbers asked.settings) (ends_of (view_of asked ran line))))
 
+    are_short : PutsAreShort asked → (values : List (List ℕ)) → values ≡ map (λ write. write.value) (buffer a (part found)) → IsTrue (list_all (λ value. nat_le (length value) 4096) values)
+    are_short puts values are =
+        shorts asked ran stand driven.account (goes asked ran stand line hold trail finish driven of) puts node asked.settings.cache found (entry ∷ on.0) on.1
+        (each_after_split (may_follow_at node asked.settings.cache) [] found (entry ∷ []) legal).0 a values are
+
   by_stage : (stage : Stage) → made_at clock finish.by finish.hold finish.aborts stage trail → may_put_at stage ran.trace.door
   by_stage (stages.Stores a r values count) made =
       let come = made.0.4 in
@@ -235,7 +241,7 @@ module _ (asked : Asked) (ran : Ran) (stand : Line → Stand) (line : Line) (hol
       let store = made.1.0 in
       record {
         node = home_node a _ r.commit come store;
-        own = ap (λ (x : Record). incarnation x.origin.node x.origin.inc) (kept a _ r.commit come store).1;
+        own = ap (λ (x : Record). incarnation x.origin.node x.origin.inc) (kept a _ r.commit come store).1.0;
         timely = in_time a _ r.commit come store;
       }
   stores_own stages.Begins made = tt
@@ -250,3 +256,21 @@ module _ (asked : Asked) (ran : Ran) (stand : Line → Stand) (line : Line) (hol
 
   pub stores_its_own : Made clock finish trail → StoresItsOwn finish
   stores_its_own made = stores_own finish.stage made
+
+  stores_short : PutsAreShort asked → (stage : Stage) → made_at clock finish.by finish.hold finish.aborts stage trail → stores_short_at stage
+  stores_short puts (stages.Stores a r values count) made =
+      let come = made.0.4 in
+      let store = made.1.0 in
+      are_short a _ r.commit come store puts values (made.0.2 ∙ ap (map (λ (write : Write). write.value)) (kept a _ r.commit come store).1.1)
+  stores_short puts stages.Begins made = tt
+  stores_short puts (stages.Settles a r values) made = tt
+  stores_short puts (stages.Failed a r) made = tt
+  stores_short puts (stages.Recorded a r) made = tt
+  stores_short puts (stages.Releases a uuid outcome) made = tt
+  stores_short puts (stages.Doubts a reply) made = tt
+  stores_short puts (stages.Ends a uuid outcome) made = tt
+  stores_short puts (stages.ShutOut a) made = tt
+  stores_short puts stages.Ended made = tt
+
+  pub stores_short_values : PutsAreShort asked → Made clock finish trail → StoresShortValues finish
+  stores_short_values puts made = stores_short puts finish.stage made

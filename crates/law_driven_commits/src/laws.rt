@@ -22,7 +22,7 @@ ghost use Rattle.aft_lines.specs.Asked.{Asked, Ran};
 ghost use Rattle.aft_turns.specs.Trail.{Trail};
 ghost use Rattle.law_accounts.specs.Account.{Account, Stand};
 ghost use Rattle.law_driver.specs.Driven.{Driven, IsNode};
-ghost use Rattle.law_driven_commits.specs.Finishes.{IsFinishOf, MayCallAtDoor, MayCloseAtNode, MayEndAtNode, MayPutAtDoor, StoresItsOwn};
+ghost use Rattle.law_driven_commits.specs.Finishes.{IsFinishOf, MayCallAtDoor, MayCloseAtNode, MayEndAtNode, MayPutAtDoor, PutsAreShort, StoresItsOwn, StoresShortValues};
 
 /// A commit or an abort that a driver runs may close at its node what it closes there, where its attempt still does what is to
 /// end, unless the node has left its incarnation; and at the door, which is open, its attempt's incarnation is up and holds the
@@ -43,4 +43,9 @@ pub fn served_attempts_do_as_asked()
 /// What a commit that a driver runs is to put is of its attempt's incarnation, which is a node's, and of a time in range.
 pub fn commits_store_their_own()
     ensures { (asked : Asked) (ran : Ran) (stand : Line → Stand) (line : Line) (hold : Hold) (trail : Trail) (finish : FinishView) (clock : ℕ) → Driven asked ran stand line hold trail → IsFinishOf line hold finish → Made clock finish trail → StoresItsOwn finish }
+{}
+
+/// Where the script puts no value of more than 4,096 bytes, a commit that a driver runs stores none.
+pub fn commits_store_short_values()
+    ensures { (asked : Asked) (ran : Ran) (stand : Line → Stand) (line : Line) (hold : Hold) (trail : Trail) (finish : FinishView) (clock : ℕ) → Driven asked ran stand line hold trail → IsFinishOf line hold finish → Made clock finish trail → PutsAreShort asked → StoresShortValues finish }
 {}
