@@ -27,13 +27,13 @@ use Rattle.aft_lines.specs.Makes.{crashes_at_node}
 use Rattle.aft_lines.specs.Progress.{IsOver}
 use Rattle.aft_lines.specs.RunsSoFar.{position_of}
 use Rattle.aft_lines.specs.Turns.{AtDoor, Turn}
-use Rattle.aft_turns.specs.Stands.{EndsRightly, GoesRightly, HasLooked, IsUnanswered, RanSo, SeesOwn, is_right, last_sees}
+use Rattle.aft_turns.specs.Stands.{EndsRightly, GoesRightly, HasLooked, IsUnanswered, LooksLate, RanSo, SeesOwn, is_right, last_sees}
 use Rattle.aft_turns.specs.Trail.{Trail}
 use Rattle.aft_turns.specs.declared.turn.Where.TheVariants as places
 use Rattle.aft_turns.proofs.Closed.{led_is_some}
 use Rattle.aft_turns.proofs.Views.{by_words, with_words}
 use Rattle.aft_boot.specs.CrashView.{left_at, next_at}
-use Rattle.aft_boot.specs.Crashed.{GoesDown, HasFenced, LooksLate, made_at, turn_at}
+use Rattle.aft_boot.specs.Crashed.{GoesDown, HasFenced, made_at, turn_at}
 use Rattle.aft_boot.specs.declared.fencing.Fencing.{Fencing}
 use Rattle.aft_boot.specs.declared.fencing.Fencing.TheVariants.{Begins, Ended, Tells}
 use Rattle.aft_boot.proofs.Looked.{looked_at}
@@ -192,14 +192,14 @@ module _ (by : By) (node : ℕ) (hold : Hold) (capacity : ℕ) where
   pub goes_so : (stage : Fencing) (trail : Trail) (view : LineView) → made_at by node stage trail → RanSo (commands.Crash node) hold capacity trail view → GoesRightly view
   goes_so Begins trail view none is = so GoesRightly trail view [] is (ap (λ (t : Trail). t.turns) none) (nothing_yet by node hold view)
   goes_so (Tells (Some inc)) trail view (place, turns) is = so GoesRightly trail view _ is turns (has_fenced by node hold view inc place)
-  goes_so (Tells None) trail view (turns, none) is = so GoesRightly trail view [] is turns (nothing_yet by node hold view)
+  goes_so (Tells None) trail view (turns, none, made) is = so GoesRightly trail view [] is turns (nothing_yet by node hold view)
   goes_so Ended trail view ended is = by_fence ended.incarnation ended.act ended.reply ended.fenced ended.down ended.turns
     where
       by_fence : (shut : Option ℕ) (act : NodeAct) (reply : Reply) → HasFenced node shut ended.since → GoesDown node shut ended.before act reply → trail.turns ≡ ended.since.turns ++ turn_at by node ended.before ended.front act (Some reply) ∷ [] → GoesRightly view
       by_fence (Some inc) act reply (place, begun) (down, told) turns =
           so GoesRightly trail view _ is (turns ∙ ap (λ (ts : List Turn). ts ++ turn_at by node ended.before ended.front act (Some reply) ∷ []) begun ∙ ap (λ (r : Reply). AtDoor place (Fence node inc) ∷ turn_at by node ended.before ended.front act (Some r) ∷ []) told)
           (crashed_goes by node hold view inc place ended.before ended.front act (down, refl))
-      by_fence None act reply (begun, none) (is_nothing, told) turns =
+      by_fence None act reply (begun, none, made) (is_nothing, told) turns =
           so GoesRightly trail view _ is
           (turns ∙ ap (λ (ts : List Turn). ts ++ turn_at by node ended.before ended.front act (Some reply) ∷ []) begun ∙ ap (λ (r : Reply). turn_at by node ended.before ended.front act (Some r) ∷ []) told
           ∙ ap (λ (x : NodeAct). turn_at by node ended.before ended.front x (Some (replies.NotUp node)) ∷ []) is_nothing)
@@ -208,7 +208,7 @@ module _ (by : By) (node : ℕ) (hold : Hold) (capacity : ℕ) where
   pub unanswered_so : (stage : Fencing) (trail : Trail) (view : LineView) → made_at by node stage trail → RanSo (commands.Crash node) hold capacity trail view → 1 ≤ left_at stage → IsUnanswered view
   unanswered_so Begins trail view none is left = so IsUnanswered trail view [] is (ap (λ (t : Trail). t.turns) none) refl
   unanswered_so (Tells (Some inc)) trail view (place, turns) is left = so IsUnanswered trail view _ is turns refl
-  unanswered_so (Tells None) trail view (turns, none) is left = so IsUnanswered trail view [] is turns refl
+  unanswered_so (Tells None) trail view (turns, none, made) is left = so IsUnanswered trail view [] is turns refl
   unanswered_so Ended trail view ended is left = absurd (omega arith)
 
   -- what is known of a crash that is over: what its last turn has seen begins with the look, and the look was late enough
@@ -224,16 +224,16 @@ module _ (by : By) (node : ℕ) (hold : Hold) (capacity : ℕ) where
       by_fence (Some inc) act reply (place, begun) (down, told) turns =
           so (EndsBy trail) trail view _ is (turns ∙ ap (λ (ts : List Turn). ts ++ turn_at by node ended.before ended.front act (Some reply) ∷ []) begun ∙ ap (λ (r : Reply). AtDoor place (Fence node inc) ∷ turn_at by node ended.before ended.front act (Some r) ∷ []) told)
           (λ rest begins late. crashed_ends by node hold view inc place ended.before ended.front act (down, refl))
-      by_fence None act reply (begun, none) (is_nothing, told) turns =
+      by_fence None act reply (begun, none, made) (is_nothing, told) turns =
           so (EndsBy trail) trail view _ is
           (turns ∙ ap (λ (ts : List Turn). ts ++ turn_at by node ended.before ended.front act (Some reply) ∷ []) begun ∙ ap (λ (r : Reply). turn_at by node ended.before ended.front act (Some r) ∷ []) told
           ∙ ap (λ (x : NodeAct). turn_at by node ended.before ended.front x (Some (replies.NotUp node)) ∷ []) is_nothing)
-          (λ rest begins late. not_up_ends by node hold view ended.before ended.front trail.look rest (subst (λ (look : List DoorEntry). up_now node look ≡ None) (sym ended.look) none) begins (late refl))
+          (λ rest begins late. not_up_ends by node hold view ended.before ended.front trail.look rest (subst (λ (look : List DoorEntry). up_now node look ≡ None) (sym ended.look) none) begins (late refl (subst (λ (look : List DoorEntry). 1 ≤ length look) (sym ended.look) made)))
 
 pub sees_so : (by : By) (node : ℕ) (stage : Fencing) (trail : Trail) (seen : List DoorEntry) → made_at by node stage trail → SeesOwn by trail.turns seen → IsTrue (last_sees seen trail.turns)
 sees_so by node Begins trail seen none sees = subst (λ (ts : List Turn). IsTrue (last_sees seen ts)) (sym (ap (λ (t : Trail). t.turns) none)) refl
 sees_so by node (Tells (Some inc)) trail seen (place, turns) sees = subst (λ (ts : List Turn). IsTrue (last_sees seen ts)) (sym turns) refl
-sees_so by node (Tells None) trail seen (turns, none) sees = subst (λ (ts : List Turn). IsTrue (last_sees seen ts)) (sym turns) refl
+sees_so by node (Tells None) trail seen (turns, none, made) sees = subst (λ (ts : List Turn). IsTrue (last_sees seen ts)) (sym turns) refl
 sees_so by node Ended trail seen ended sees = by_fence ended.incarnation ended.act ended.reply ended.fenced ended.down ended.turns
   where
     by_fence : (shut : Option ℕ) (act : NodeAct) (reply : Reply) → HasFenced node shut ended.since → GoesDown node shut ended.before act reply → trail.turns ≡ ended.since.turns ++ turn_at by node ended.before ended.front act (Some reply) ∷ [] → IsTrue (last_sees seen trail.turns)
@@ -241,6 +241,6 @@ sees_so by node Ended trail seen ended sees = by_fence ended.incarnation ended.a
         let its : trail.turns ≡ AtDoor place (Fence node inc) ∷ turn_at by node ended.before ended.front act (Some (replies.Crashed node inc)) ∷ [] = turns ∙ ap (λ (ts : List Turn). ts ++ turn_at by node ended.before ended.front act (Some reply) ∷ []) begun ∙ ap (λ (r : Reply). AtDoor place (Fence node inc) ∷ turn_at by node ended.before ended.front act (Some r) ∷ []) told in
         subst (λ (ts : List Turn). IsTrue (last_sees seen ts)) (sym its)
         (crashed_sees by node inc place ended.before ended.front seen act (down, refl) (subst (λ (ts : List Turn). SeesOwn by ts seen) its sees))
-    by_fence None act reply (begun, none) (is_nothing, told) turns =
+    by_fence None act reply (begun, none, made) (is_nothing, told) turns =
         subst (λ (ts : List Turn). IsTrue (last_sees seen ts))
         (sym (turns ∙ ap (λ (ts : List Turn). ts ++ turn_at by node ended.before ended.front act (Some reply) ∷ []) begun ∙ ap (λ (x : NodeAct). turn_at by node ended.before ended.front x (Some reply) ∷ []) is_nothing)) refl

@@ -1,12 +1,15 @@
 -- The turns of a crash, by what the door and the node do.
-use Rattle.std.proofs.Common.{◌≡◌, ℕ, Bool, true, false, ◌||◌, not, [], ◌∷◌, ◌++◌, length, max, refl, sym, ap, inl, inr}
-use Rattle.std.specs.Prelude.{IfNone, IfSome, None, Option, Some, if◌then◌else◌}
+use Rattle.std.proofs.Common.{◌≡◌, ℕ, Bool, true, false, ◌||◌, not, [], ◌∷◌, ◌++◌, length, max, refl, sym, ap, inl, inr, ◌≤◌, List, arith}
+use Rattle.std.specs.Prelude.{IfNone, IfSome, IsTrue, None, Option, Some, if◌then◌else◌}
+use Rattle.std.proofs.lemmas.Bool.{false≢true}
 use Rattle.aft_model.specs.declared.caller.By.{By}
 use Rattle.aft_model.specs.declared.door.DoorAct.TheVariants.{Fence}
+use Rattle.aft_model.specs.declared.door.DoorEntry.{DoorEntry}
 use Rattle.aft_model.specs.declared.node.NodeAct.{NodeAct}
 use Rattle.aft_model.specs.declared.node.NodeAct.TheVariants as acts
 use Rattle.aft_model.specs.declared.reply.Reply.{Reply}
 use Rattle.aft_model.specs.declared.reply.Reply.TheVariants as replies
+use Rattle.aft_model.specs.DoorKnowledge.{is_open}
 use Rattle.aft_model.specs.Membership.{up_now}
 use Rattle.aft_model.specs.NodeState.{boots, node_state, serves}
 use Rattle.aft_door.specs.Calls.{DoorView, with_entry}
@@ -24,7 +27,12 @@ use Rattle.aft_turns.specs.declared.turn.Where.TheVariants as places
 
 -- ---- at the door
 
-module _ (by : By) (node : ℕ) (old new : DoorView) where
+-- an open door has an entry
+open_is_some : (history : List DoorEntry) → IsTrue (is_open history) → 1 ≤ length history
+open_is_some [] is = absurd (false≢true is)
+open_is_some (entry ∷ history) is = omega arith
+
+module _ (by : By) (node : ℕ) (old new : DoorView) (opened : IsTrue (is_open old.history)) where
   pub fences : (fenced : Option ℕ) → fenced ≡ up_now node old.history → IfSome fenced (λ inc. new ≡ with_entry old (was_fenced by node inc)) → IfNone fenced (new ≡ old) → StepsAtDoor by (made_at by node Begins) (made_at by node (Tells fenced)) old.history new.history
   fences (Some inc) is some none =
       inl (Fence node inc, ap (λ (d : DoorView). d.history) some, λ trail made. (length_of, ap (λ (t : Trail). t.turns ++ turn ∷ []) made))
@@ -34,7 +42,7 @@ module _ (by : By) (node : ℕ) (old new : DoorView) where
 
       turn : Turn
       turn = AtDoor (length old.history) (Fence node inc)
-  fences None is some none = inr (ap (λ (d : DoorView). d.history) none, λ trail made. (ap (λ (t : Trail). t.turns) made, sym is))
+  fences None is some none = inr (ap (λ (d : DoorView). d.history) none, λ trail made. (ap (λ (t : Trail). t.turns) made, sym is, open_is_some old.history opened))
 
 -- ---- at the node
 

@@ -9,8 +9,6 @@ use Rattle.aft_model.specs.declared.reply.Reply.{Reply}
 use Rattle.aft_model.specs.declared.reply.Reply.TheVariants as replies
 use Rattle.aft_model.specs.Membership.{up_now}
 use Rattle.aft_model.specs.NodeState.{boots, node_state, serves}
-use Rattle.aft_lines.specs.CausesNodes.{earliest}
-use Rattle.aft_lines.specs.LineView.{LineView, door_entries}
 use Rattle.aft_lines.specs.Turns.{AtDoor, AtNode, Turn}
 use Rattle.aft_boot.specs.CrashView.{CrashView}
 use Rattle.aft_boot.specs.declared.fencing.Fencing.{Fencing}
@@ -21,10 +19,10 @@ use Rattle.aft_turns.specs.Trail.{Trail, no_trail}
 abbrev pub turn_at : By → ℕ → List NodeEntry → ℕ → NodeAct → Option Reply → Turn
 turn_at by node before front act answer = AtNode node before (record { front = front; by = by; act = act; answer = answer })
 
--- what a crash did at the door: it fenced this incarnation; or it fenced none, and the look showed none of the node up
+-- what a crash did at the door: it fenced this incarnation; or it fenced none, and looked at the door, which showed none of the node up
 abbrev pub HasFenced : ℕ → Option ℕ → Trail → Type 0
 HasFenced node (Some inc) trail = (place : ℕ) × (trail.turns ≡ AtDoor place (Fence node inc) ∷ [])
-HasFenced node None trail = (trail.turns ≡ []) × (up_now node trail.look ≡ None)
+HasFenced node None trail = (trail.turns ≡ []) × (up_now node trail.look ≡ None) × (1 ≤ length trail.look)
 
 -- what the node did: the fenced incarnation went down, or the node had left it; or none was fenced
 abbrev pub GoesDown : ℕ → Option ℕ → List NodeEntry → NodeAct → Reply → Type 0
@@ -54,7 +52,3 @@ made_at by node Ended trail = EndedSo by node trail
 -- a crash has made these turns
 abbrev pub Made : CrashView → Trail → Type 0
 Made crash trail = made_at crash.by crash.node crash.stage trail
-
--- a crash that fenced none looked at the door when that was at least as long as what its client's answer before had seen, and where lines run whole, as all that its own last turn has seen. A crash can't know this by itself; its driver does
-abbrev pub LooksLate : Trail → LineView → Type 0
-LooksLate trail view = door_entries view ≡ [] → earliest view.before view ≤ length trail.look

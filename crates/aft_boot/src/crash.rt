@@ -1,14 +1,15 @@
 //! A crash.
 
 ghost use Rattle.std.specs.Prelude.{◌≡◌, ◌≢◌, ◌≤◌, ◌<◌, ℕ, IsTrue, List};
-ghost use Rattle.aft_boot.specs.Crashed.{LooksLate, Made, made_at};
+ghost use Rattle.aft_boot.specs.Crashed.{Made, made_at};
 ghost use Rattle.aft_boot.specs.CrashView.{left_at, left_of, next_at, next_of};
 ghost use Rattle.aft_boot.specs.declared.fencing.Fencing.TheVariants as stages;
 ghost use Rattle.aft_lines.specs.LineView.{LineView};
+ghost use Rattle.aft_model.specs.DoorKnowledge.{is_open};
 ghost use Rattle.aft_model.specs.declared.caller.Hold.{Hold};
 ghost use Rattle.aft_model.specs.declared.door.DoorEntry.{DoorEntry};
 ghost use Rattle.aft_model.specs.declared.script.Command.TheVariants as commands;
-ghost use Rattle.aft_turns.specs.Stands.{EndsRightly, GoesRightly, HasLooked, IsUnanswered, RanSo, SeesOwn, last_sees};
+ghost use Rattle.aft_turns.specs.Stands.{EndsRightly, GoesRightly, HasLooked, IsUnanswered, LooksLate, RanSo, SeesOwn, last_sees};
 ghost use Rattle.aft_turns.specs.Steps.{SameStore, StepsAtDoor, StepsAtNode};
 ghost use Rattle.aft_turns.specs.Trail.{Trail, no_trail};
 ghost use Rattle.aft_turns.specs.declared.turn.Where.TheVariants as places;
@@ -93,6 +94,7 @@ impl Crash {
     /// Its turn at the door.
     pub fn at_door<K: Keeper>(&mut self, door: &mut Door<K>)
         requires next { next_of self.old ≡ places.Door }
+        requires open { IsTrue (is_open door.old.history) }
         ensures by { self.new.by ≡ self.old.by }
         ensures node { self.new.node ≡ self.old.node }
         ensures left { left_of self.new < left_of self.old }

@@ -1,5 +1,5 @@
 -- What a machine promises, put together.
-use Rattle.std.proofs.Common.{◌≡◌, ℕ, List, refl, sym, ap, subst, inl, inr}
+use Rattle.std.proofs.Common.{◌≡◌, ◌++◌, ℕ, List, refl, ap, inl, inr}
 use Rattle.std.specs.Prelude.{IsTrue, Option}
 use Rattle.std.specs.List.{list_all}
 use Rattle.aft_model.specs.declared.caller.By.{By}
@@ -7,9 +7,8 @@ use Rattle.aft_model.specs.declared.caller.Hold.{Hold}
 use Rattle.aft_model.specs.declared.door.DoorEntry.{DoorEntry}
 use Rattle.aft_model.specs.declared.script.Command.{Command}
 use Rattle.aft_lines.specs.LineView.{LineView}
-use Rattle.aft_lines.specs.Turns.{Turn}
 use Rattle.aft_machine.specs.OneNode.{is_nowhere}
-use Rattle.aft_turns.specs.Stands.{EndsRightly, GoesRightly, HasLooked, RanSo, SeesOwn, last_sees}
+use Rattle.aft_turns.specs.Stands.{EndsRightly, GoesRightly, HasLooked, LooksLate, RanSo, SeesOwn, last_sees}
 use Rattle.aft_turns.specs.Steps.{FrontsWithin, StepsAtDoor}
 use Rattle.aft_turns.specs.Trail.{Trail}
 use Rattle.aft_turns.specs.declared.turn.Where.{Where}
@@ -29,13 +28,13 @@ done_over place is = ap is_nowhere is
 -- of a machine whose next turn is here
 pub promised : (by : By) (command : Command) (hold : Hold) (capacity : ℕ) (clock : Option ℕ) (trail : Trail) (place : Where)
     → ((view : LineView) → RanSo command hold capacity trail view → (place ≡ places.Done → HasLooked trail view) → GoesRightly view)
-    → ((view : LineView) → RanSo command hold capacity trail view → view.clock ≡ clock → place ≡ places.Done → HasLooked trail view → EndsRightly view)
-    → ((seen : List DoorEntry) → SeesOwn by trail.turns seen → IsTrue (last_sees seen trail.turns))
+    → ((view : LineView) → RanSo command hold capacity trail view → view.clock ≡ clock → place ≡ places.Done → HasLooked trail view → LooksLate trail view → EndsRightly view)
+    → ((seen rest : List DoorEntry) → SeesOwn by trail.turns seen → seen ≡ trail.look ++ rest → IsTrue (last_sees seen trail.turns))
     → IsTrue (list_all (reads_clock clock) trail.turns) → Promises by command hold capacity clock (is_nowhere place) trail
 promised by command hold capacity clock trail place goes ends sees reads = record {
   goes = λ view ran looked. goes view ran (λ done. looked (done_over place done));
-  ends = λ view ran told over looked. ends view ran told (over_done place over) looked;
-  sees = λ seen rest own begins. sees seen own;
+  ends = λ view ran told over looked late. ends view ran told (over_done place over) looked late;
+  sees = sees;
   reads = reads;
 }
 

@@ -1,5 +1,5 @@
 -- What stands of a line by the trail of its machine: while it runs, and once it is over.
-use Rattle.std.specs.Prelude.{Bool, IsTrue, List, None, Option, Some, [], is_some, not, take, true, ℕ, ◌&&◌, ◌++◌, ◌≡◌, ◌||◌, ◌∷◌}
+use Rattle.std.specs.Prelude.{Bool, IsTrue, List, None, Option, Some, [], is_some, length, not, take, true, ℕ, ◌&&◌, ◌++◌, ◌≡◌, ◌≤◌, ◌||◌, ◌∷◌}
 use Rattle.std.specs.List.{flat_map, fold, list_all}
 use Rattle.aft_model.specs.declared.caller.By.{By}
 use Rattle.aft_model.specs.declared.caller.Hold.{Hold}
@@ -12,9 +12,10 @@ use Rattle.aft_model.specs.Replies.{is_silent}
 use Rattle.aft_lines.specs.Advance.{is_led_to_end}
 use Rattle.aft_lines.specs.Causes.{Caused}
 use Rattle.aft_lines.specs.CausesAttempts.{speaks_of_attempt}
+use Rattle.aft_lines.specs.CausesNodes.{earliest}
 use Rattle.aft_lines.specs.LegalTrace.{named_node, stands_at, turn_of, turn_words}
 use Rattle.aft_lines.specs.LineCourse.{answers_last}
-use Rattle.aft_lines.specs.LineView.{LineView, door_entry_in, last_front}
+use Rattle.aft_lines.specs.LineView.{LineView, door_entries, door_entry_in, last_front}
 use Rattle.aft_lines.specs.Makes.{makes}
 use Rattle.aft_lines.specs.RunsSoFar.{position_of}
 use Rattle.aft_lines.specs.Turns.{AtDoor, AtNode, Turn, answer_in}
@@ -30,6 +31,10 @@ pub record RanSo (command : Command) (hold : Hold) (capacity : ℕ) (trail : Tra
 -- the last turn of a line at a node has seen the door as it was when it last refused a call of the line
 abbrev pub HasLooked : Trail → LineView → Type 0
 HasLooked trail view = (rest : List DoorEntry) × (take (last_front view) view.seen ≡ trail.look ++ rest)
+
+-- a line that made no entry at the door, but looked at it, did so when that was at least as long as what its client's answer before had seen, and where lines run whole, as all that its own last turn has seen. A machine can't know this by itself; its driver does
+abbrev pub LooksLate : Trail → LineView → Type 0
+LooksLate trail view = door_entries view ≡ [] → 1 ≤ length trail.look → earliest view.before view ≤ length trail.look
 
 -- what the last of some turns answered
 abbrev pub end_answer : List Turn → Option Reply

@@ -53,7 +53,7 @@ module _ (asked : Asked) (ran : Ran) (added : Added) (line : Line) (none_before 
   pub hold_same : hold_before (lines asked) new.trace line ≡ hold_before (lines asked) ran.trace line
   hold_same = begin_same (last_begin (lines asked) line) (last_so is_earlier (filter (λ other. begins other.order) (earlier_lines (lines asked) line)) None refl (kept_by (λ other. begins other.order) is_earlier (earlier_lines (lines asked) line) (kept_so is_earlier (lines asked))))
 
-  since_same : answered_front new.trace (line_before (lines asked) line) ≡ answered_front ran.trace (line_before (lines asked) line)
+  pub since_same : answered_front new.trace (line_before (lines asked) line) ≡ answered_front ran.trace (line_before (lines asked) line)
   since_same = front_same (line_before (lines asked) line) (last_so is_earlier (earlier_lines (lines asked) line) None refl (kept_so is_earlier (lines asked)))
 
   -- a view by what it reads of the run

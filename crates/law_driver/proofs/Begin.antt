@@ -1,5 +1,5 @@
 -- A line begins.
-use Rattle.std.proofs.Common.{◌≡◌, ◌<◌, Bool, refl, sym, subst, ap, ◌∙◌, ◌⊎◌, inl, inr}
+use Rattle.std.proofs.Common.{◌≡◌, ◌<◌, Bool, refl, sym, subst, ap, ◌∙◌, ◌⊎◌, inl, inr, arith}
 use Rattle.std.specs.Prelude.{IsFalse, IsTrue, if◌then◌else◌}
 use Rattle.std.proofs.lemmas.Bool.{cases_Bool}
 use Rattle.aft_model.specs.declared.caller.Hold.{Hold}
@@ -103,6 +103,7 @@ module _ (asked : Asked) (ran : Ran) (stand : Line → Stand) (line : Line) (acc
         closing = none_at_number (line_of line) (node_of line.order hold) 1 ran.trace.nodes (nodes_strange (line_of line) ran nothing);
         sees = record { own = entries_none (line_of line) ran nothing; places = tt };
         looked = (ran.trace.door, refl);
+        late = λ made. absurd (omega arith);
         held = held;
         quiet = mail_none (line_of line) ran nothing;
         ranked = ranked;

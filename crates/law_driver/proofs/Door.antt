@@ -34,6 +34,7 @@ use Rattle.law_driver.specs.Driven.{Driven, Promises, node_of, ranks_in}
 use Rattle.law_driver.specs.Kept.{door_entry}
 use Rattle.law_driver.proofs.Along.{goes_along, own_hold_same}
 use Rattle.law_driver.proofs.Closing.{act_at_door}
+use Rattle.law_driver.proofs.Late.{looked_now, looked_own}
 use Rattle.law_driver.proofs.NeverStops.{stops_not}
 use Rattle.law_driver.proofs.Node.{ranked_so}
 use Rattle.law_driver.proofs.Rights.{no_collection, right_backed, right_parts, right_place}
@@ -69,6 +70,7 @@ module _ (asked : Asked) (ran : Ran) (stand : Line → Stand) (line : Line) (hol
     sees = driven.sees;
     closing = driven.closing;
     looked = ([], sym (append-nil door));
+    late = λ made. looked_now asked ran line stand driven.account (whole_order asked);
     held = driven.held;
     quiet = driven.quiet;
     ranked = driven.ranked;
@@ -141,6 +143,7 @@ module _ (asked : Asked) (ran : Ran) (stand : Line → Stand) (line : Line) (hol
       sees = sees_door (line_of line) trail.turns act door driven.sees;
       closing = driven.closing ∙ sym (act_at_door trail.turns (length door) act);
       looked = looked_more trail.look door (door_entry line act) driven.looked;
+      late = λ made. looked_own asked ran line added refl stranger (length trail.look) (whole_order asked) (driven.late made);
       held = held_same ∙ driven.held;
       quiet = driven.quiet;
       ranked = ranked_so asked ran added driven.ranked;

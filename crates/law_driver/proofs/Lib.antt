@@ -3,6 +3,7 @@ pub mod Closing
 pub mod Rights
 pub mod Along
 pub mod NeverStops
+pub mod Late
 pub mod Node
 pub mod Door
 pub mod Begin

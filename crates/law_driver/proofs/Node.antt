@@ -21,13 +21,13 @@ use Rattle.aft_ledger.specs.View.{NodeView}
 use Rattle.aft_lines.specs.Asked.{Asked, Ran}
 use Rattle.aft_lines.specs.FinishedText.{line_of}
 use Rattle.aft_lines.specs.LegalTrace.{act_at, has_seen_earlier, rank}
-use Rattle.aft_lines.specs.LineView.{LineView, NodeTurn, front_of, last_front, node_turn_in}
+use Rattle.aft_lines.specs.LineView.{LineView, NodeTurn, door_entry_in, front_of, last_front, node_turn_in}
 use Rattle.aft_lines.specs.Lines.{hold_before, lines, node_numbers, whole_order}
 use Rattle.aft_lines.specs.Makes.{makes}
 use Rattle.aft_lines.specs.Turns.{AtDoor, AtNode, AtOffice, Turn, end_front, front_in, turns}
 use Rattle.aft_lines.specs.Views.{view_of}
 use Rattle.aft_node.specs.Closing.{last_own}
-use Rattle.aft_turns.specs.Stands.{EndsRightly, GoesRightly, HasLooked, RanSo, is_right, sees}
+use Rattle.aft_turns.specs.Stands.{EndsRightly, GoesRightly, HasLooked, LooksLate, RanSo, SeesOwn, is_right, sees}
 use Rattle.aft_turns.specs.Steps.{entry_of}
 use Rattle.aft_turns.specs.Trail.{Trail}
 use Rattle.law_accounts.proofs.GoesOn.{goes_on}
@@ -42,10 +42,11 @@ use Rattle.law_accounts.specs.Turned.{is_at_node_or_door, is_past, turned_by}
 use Rattle.law_claims.proofs.Scenes.{by_itself}
 use Rattle.law_grows.proofs.Positions.{end_within}
 use Rattle.law_grows.specs.Reach.{is_within}
-use Rattle.law_driver.specs.Driven.{AllAtOneNode, Driven, IsNode, Promises, RanksLast, last_act, node_of, ranks_in, reads_clock}
+use Rattle.law_driver.specs.Driven.{AllAtOneNode, Driven, IsNode, LookedBy, Promises, RanksLast, last_act, node_of, ranks_in, reads_clock}
 use Rattle.law_driver.specs.Kept.{StandsNow, behind_node, with_stand}
 use Rattle.law_driver.proofs.Along.{goes_along, own_hold_same}
 use Rattle.law_driver.proofs.Closing.{act_at_node, last_with_own, numbered_more}
+use Rattle.law_driver.proofs.Late.{drop_all, looked_own, looks_late}
 use Rattle.law_driver.proofs.Rights.{no_collection, quiet_mail, right_parts, right_place}
 use Rattle.law_driver.proofs.Seeing.{fold_last, last_is, sees_node}
 
@@ -65,10 +66,6 @@ ranked_so asked ran added so = (by_order (whole_order asked) so.0, ranks_so aske
     by_order (Some order) so = ranks_so order ran added so
 
 -- who has seen the whole door has seen all that earlier lines did
-drop_all : {A : Type 0} (xs : List A) → drop (length xs) xs ≡ []
-drop_all [] = refl
-drop_all (x ∷ xs) = drop_all xs
-
 take_all : {A : Type 0} (xs : List A) → take (length xs) xs ≡ xs
 take_all [] = refl
 take_all {A} (x ∷ xs) = ap (λ (l : List A). x ∷ l) (take_all xs)
@@ -182,6 +179,9 @@ module _ (asked : Asked) (ran : Ran) (stand : Line → Stand) (line : Line) (hol
   goes : GoesRightly view
   goes = promises.goes view (ran_so new.trace.nodes) (λ over. has_looked new.trace.nodes)
 
+  sees_now : SeesOwn (line_of line) next.turns door
+  sees_now = sees_node (line_of line) trail.turns node.number node.history entry door driven.sees
+
   follows : Follows asked ran added
   follows = (
     subst (λ (h : List NodeEntry). IsTrue (is_legal_node node.number asked.settings.cache (h ++ entry ∷ []))) is_node.history
@@ -189,7 +189,7 @@ module _ (asked : Asked) (ran : Ran) (stand : Line → Stand) (line : Line) (hol
     and_from _ _ (le-leb entry.front (length door) (let e = front_is in omega arith))
         (subst (λ (h : List NodeEntry). IsTrue (has_seen node.number (take entry.front door) entry.by h entry.act entry.answer)) is_node.history
         (subst (λ (seen : List DoorEntry). IsTrue (has_seen node.number seen entry.by node.history entry.act entry.answer)) (sym (ap (λ n. take n door) front_is ∙ take_all door))
-        (sym (sees_last trail.turns node.number node.history entry door) ∙ promises.sees door driven.looked.0 (sees_node (line_of line) trail.turns node.number node.history entry door driven.sees) driven.looked.1))),
+        (sym (sees_last trail.turns node.number node.history entry door) ∙ promises.sees door driven.looked.0 sees_now driven.looked.1))),
     last_reads,
     (let low = end_within (length door) (turns opening ran.trace) (turns_within opening asked.settings.cache ran.trace driven.account.nodes driven.account.office) in let e = front_is in omega arith),
   )
@@ -227,6 +227,14 @@ module _ (asked : Asked) (ran : Ran) (stand : Line → Stand) (line : Line) (hol
 
   -- ---- how it stands
 
+  late_now : 1 ≤ length trail.look → LookedBy asked new line (length trail.look) (whole_order asked)
+  late_now made = looked_own asked ran line added refl stranger (length trail.look) (whole_order asked) (driven.late made)
+
+  late_so : (nodes : List (List NodeEntry)) → LooksLate next (view_beside nodes)
+  late_so nodes none made =
+      looks_late asked new line (view_beside nodes) (length trail.look) (whole_order asked) refl (node_last trail.turns node.number node.history entry view turned ∙ front_is)
+      (sees_now.own ∙ ap (flat_map (door_entry_in (line_of line))) (sym turned) ∙ none) (late_now made)
+
   runs_still : done ≡ false → Driven asked new stand line hold next
   runs_still on = record {
     account = goes_on asked ran stand stand line added driven.account driven.may refl follows ordered none_collects (record { others = λ other listed differs. refl; goes = along; now = inl driven.runs });
@@ -234,9 +242,10 @@ module _ (asked : Asked) (ran : Ran) (stand : Line → Stand) (line : Line) (hol
     runs = driven.runs;
     kind = driven.kind;
     own = turned;
-    sees = sees_node (line_of line) trail.turns node.number node.history entry door driven.sees;
+    sees = sees_now;
     closing = closes_now;
     looked = driven.looked;
+    late = late_now;
     held = held_same ∙ driven.held;
     quiet = driven.quiet;
     ranked = ranked_so asked ran added driven.ranked;
@@ -254,7 +263,7 @@ module _ (asked : Asked) (ran : Ran) (stand : Line → Stand) (line : Line) (hol
   )
     where
       ends : (nodes : List (List NodeEntry)) → EndsRightly (view_beside nodes)
-      ends nodes = promises.ends (view_beside nodes) (ran_so nodes) refl over (has_looked nodes)
+      ends nodes = promises.ends (view_beside nodes) (ran_so nodes) refl over (has_looked nodes) (late_so nodes)
 
       ended : ComesToEnd view
       ended = record {

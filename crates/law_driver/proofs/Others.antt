@@ -1,6 +1,6 @@
 -- A line that runs stands as it did behind the turns of others.
-use Rattle.std.proofs.Common.{◌≡◌, ◌<◌, List, ◌++◌, sym, subst, ap, ◌∙◌, ◌⊎◌, inl, inr, eqb}
-use Rattle.std.specs.Prelude.{IsFalse}
+use Rattle.std.proofs.Common.{◌≡◌, ◌≤◌, ◌<◌, List, ◌++◌, sym, subst, ap, ◌∙◌, ◌⊎◌, inl, inr, eqb}
+use Rattle.std.specs.Prelude.{IsFalse, None, Option, length}
 use Rattle.std.proofs.lemmas.Bool.{and_parts, cases_Bool, eqb-true}
 use Rattle.aft_model.specs.declared.caller.By.{By}
 use Rattle.aft_model.specs.declared.caller.Hold.{Hold}
@@ -10,14 +10,15 @@ use Rattle.aft_model.specs.Opening.{opening}
 use Rattle.aft_model.specs.ScanRun.{same_line}
 use Rattle.aft_lines.specs.Asked.{Asked, Ran}
 use Rattle.aft_lines.specs.FinishedText.{line_of}
+use Rattle.aft_lines.specs.Lines.{whole_order}
 use Rattle.aft_node.specs.Closing.{last_own}
 use Rattle.aft_turns.specs.Stands.{SeesOwn}
 use Rattle.aft_turns.specs.Trail.{Trail}
 use Rattle.law_accounts.proofs.Others.{office_first, turns_same}
-use Rattle.law_accounts.proofs.Views.{hold_same}
+use Rattle.law_accounts.proofs.Views.{hold_same, since_same}
 use Rattle.law_accounts.specs.Account.{Account, IsDone, MayGoOn, Runs, Stand, Waits}
 use Rattle.law_accounts.specs.Adding.{AddsAtBox, AddsAtDoor, AddsAtNode, AddsAtOffice, Added, maker_of, numbered_in, with_added}
-use Rattle.law_driver.specs.Driven.{Driven, RanksLast, last_act, node_of}
+use Rattle.law_driver.specs.Driven.{Driven, LookedBy, RanksLast, last_act, node_of}
 use Rattle.law_driver.proofs.Closing.{last_with_other, numbered_either}
 use Rattle.law_driver.proofs.Door.{looked_more}
 use Rattle.law_driver.proofs.Seeing.{sees_other}
@@ -63,8 +64,15 @@ module _ (asked : Asked) (ran : Ran) (stand later : Line → Stand) (line other 
   closes_still (AddsAtOffice entry) apart = driven.closing
   closes_still (AddsAtBox box entry) apart = driven.closing
 
-  pub stays : Account asked (with_added added ran) later → MayGoOn asked later line → later line ≡ Runs → RanksLast asked (with_added added ran) (line_of line) → Driven asked (with_added added ran) later line hold trail
-  stays account may_still runs ranked = record {
+  -- where lines don't run whole
+  late_still : whole_order asked ≡ None → 1 ≤ length trail.look → LookedBy asked (with_added added ran) line (length trail.look) (whole_order asked)
+  late_still apart made =
+      subst (λ (order : Option (List Line)). LookedBy asked (with_added added ran) line (length trail.look) order) (sym apart)
+      (subst (λ n. n ≤ length trail.look) (sym (since_same asked ran added line none_before stranger))
+      (subst (λ (order : Option (List Line)). LookedBy asked ran line (length trail.look) order) apart (driven.late made)))
+
+  pub stays : whole_order asked ≡ None → Account asked (with_added added ran) later → MayGoOn asked later line → later line ≡ Runs → RanksLast asked (with_added added ran) (line_of line) → Driven asked (with_added added ran) later line hold trail
+  stays apart account may_still runs ranked = record {
     account = account;
     may = may_still;
     runs = runs;
@@ -73,6 +81,7 @@ module _ (asked : Asked) (ran : Ran) (stand later : Line → Stand) (line other 
     sees = sees_still added strange;
     closing = closes_still added strange;
     looked = looked_still added;
+    late = late_still apart;
     held = hold_same asked ran added line none_before stranger ∙ driven.held;
     quiet = office_first (line_of line) ran added strange ∙ driven.quiet;
     ranked = ranked;

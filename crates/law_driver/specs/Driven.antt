@@ -1,5 +1,5 @@
 -- A line that its machine runs on one thread, and what the machine promises.
-use Rattle.std.specs.Prelude.{Bool, IsTrue, List, None, Option, Some, [], false, length, nat_le, true, ℕ, ◌&&◌, ◌++◌, ◌≡◌, ◌≤◌}
+use Rattle.std.specs.Prelude.{Bool, IsTrue, List, None, Option, Some, [], drop, false, length, nat_le, true, ℕ, ◌&&◌, ◌++◌, ◌≡◌, ◌≤◌}
 use Rattle.std.specs.List.{fold, list_all}
 use Rattle.aft_model.proofs.Histories.{In}
 use Rattle.aft_model.specs.declared.caller.By.{By}
@@ -9,6 +9,7 @@ use Rattle.aft_model.specs.declared.node.NodeAct.{NodeAct}
 use Rattle.aft_model.specs.declared.script.Command.{Command}
 use Rattle.aft_model.specs.declared.script.Command.TheVariants as commands
 use Rattle.aft_model.specs.declared.script.Line.{Line}
+use Rattle.aft_model.specs.ScanRun.{same_line}
 use Rattle.aft_ledger.specs.View.{NodeView}
 use Rattle.aft_lines.specs.Asked.{Asked, Ran}
 use Rattle.aft_lines.specs.FinishedText.{line_of}
@@ -17,8 +18,9 @@ use Rattle.aft_lines.specs.LinePosts.{from_office}
 use Rattle.aft_lines.specs.LineView.{LineView}
 use Rattle.aft_lines.specs.Lines.{hold_before, lines, whole_order}
 use Rattle.aft_lines.specs.Turns.{AtNode, Turn, turns}
+use Rattle.aft_lines.specs.Views.{answered_front, line_before}
 use Rattle.aft_node.specs.Closing.{last_own}
-use Rattle.aft_turns.specs.Stands.{EndsRightly, GoesRightly, HasLooked, RanSo, SeesOwn, last_sees}
+use Rattle.aft_turns.specs.Stands.{EndsRightly, GoesRightly, HasLooked, LooksLate, RanSo, SeesOwn, last_sees}
 use Rattle.aft_turns.specs.Trail.{Trail}
 use Rattle.law_accounts.specs.Account.{Account, MayGoOn, Runs, Stand}
 use Rattle.law_accounts.specs.Adding.{numbered_in, ranks_last}
@@ -45,7 +47,7 @@ reads_clock clock turn = true
 -- what a machine promises of a trail that it has: of a line of this name, which asks this, of a client that holds this, over nodes that keep so many values and a clock that tells this; where the machine is done or isn't
 pub record Promises (by : By) (command : Command) (hold : Hold) (capacity : ℕ) (clock : Option ℕ) (done : Bool) (trail : Trail) : Type 0 where
   pub goes : (view : LineView) → RanSo command hold capacity trail view → (IsTrue done → HasLooked trail view) → GoesRightly view
-  pub ends : (view : LineView) → RanSo command hold capacity trail view → view.clock ≡ clock → IsTrue done → HasLooked trail view → EndsRightly view
+  pub ends : (view : LineView) → RanSo command hold capacity trail view → view.clock ≡ clock → IsTrue done → HasLooked trail view → LooksLate trail view → EndsRightly view
   pub sees : (seen rest : List DoorEntry) → SeesOwn by trail.turns seen → seen ≡ trail.look ++ rest → IsTrue (last_sees seen trail.turns)
   pub reads : IsTrue (list_all (reads_clock clock) trail.turns)
 
@@ -75,7 +77,12 @@ act_behind before turn = before
 abbrev pub last_act : List Turn → Option NodeAct
 last_act line = fold act_behind None line
 
--- a line that runs, in a run that has an account: its turns are those of this trail, which has looked at the door as it was, and what it did at the door and last at its node is what they did; its client holds this; and it did nothing at the boxes
+-- how late a line looked, when the door had so many entries: by then it had all that the client's answer before had seen; and where lines run whole, all that has come since is the line's own
+abbrev pub LookedBy : Asked → Ran → Line → ℕ → Option (List Line) → Type 0
+LookedBy asked ran line looked None = answered_front ran.trace (line_before (lines asked) line) ≤ looked
+LookedBy asked ran line looked (Some order) = IsTrue (list_all (λ entry. same_line (line_of line) entry.by) (drop looked ran.trace.door))
+
+-- a line that runs, in a run that has an account: its turns are those of this trail, which has looked at the door as it was, and late enough, if it looked; and what it did at the door and last at its node is what they did; its client holds this; and it did nothing at the boxes
 pub record Driven (asked : Asked) (ran : Ran) (stand : Line → Stand) (line : Line) (hold : Hold) (trail : Trail) : Type 0 where
   pub account : Account asked ran stand
   pub may : MayGoOn asked stand line
@@ -85,6 +92,7 @@ pub record Driven (asked : Asked) (ran : Ran) (stand : Line → Stand) (line : L
   pub sees : SeesOwn (line_of line) trail.turns ran.trace.door
   pub closing : last_own (line_of line) (numbered_in (node_of line.order hold) 1 ran.trace.nodes) ≡ last_act trail.turns
   pub looked : (rest : List DoorEntry) × (ran.trace.door ≡ trail.look ++ rest)
+  pub late : 1 ≤ length trail.look → LookedBy asked ran line (length trail.look) (whole_order asked)
   pub held : hold_before (lines asked) ran.trace line ≡ hold
   pub quiet : from_office (line_of line) ran.mail ≡ []
   pub ranked : RanksLast asked ran (line_of line)

@@ -1,6 +1,6 @@
 //! Laws of drivers, as calls that do nothing and promise them.
 
-ghost use Rattle.std.specs.Prelude.{◌≡◌, Bool, IsFalse, IsTrue, Option, ◌++◌, ◌∷◌, [], false, length};
+ghost use Rattle.std.specs.Prelude.{◌≡◌, Bool, IsFalse, IsTrue, None, Option, ◌++◌, ◌∷◌, [], false, length};
 ghost use Rattle.aft_model.specs.declared.caller.Hold.{Hold};
 ghost use Rattle.aft_model.specs.declared.door.DoorAct.{DoorAct};
 ghost use Rattle.aft_model.specs.declared.node.NodeAct.{NodeAct};
@@ -13,7 +13,7 @@ ghost use Rattle.aft_model.specs.ScanRun.{same_line};
 ghost use Rattle.aft_ledger.specs.View.{NodeView};
 ghost use Rattle.aft_lines.specs.Asked.{Asked, Ran};
 ghost use Rattle.aft_lines.specs.FinishedText.{line_of};
-ghost use Rattle.aft_lines.specs.Lines.{hold_before, lines};
+ghost use Rattle.aft_lines.specs.Lines.{hold_before, lines, whole_order};
 ghost use Rattle.aft_lines.specs.Turns.{AtDoor};
 ghost use Rattle.aft_turns.specs.Steps.{FrontsWithin, entry_of};
 ghost use Rattle.aft_turns.specs.Trail.{Trail, behind, looking, no_trail};
@@ -39,7 +39,7 @@ pub fn door_turns_keep()
     ensures fronts { (asked : Asked) (ran : Ran) (stand : Line → Stand) (line : Line) (hold : Hold) (trail : Trail) → Driven asked ran stand line hold trail → FrontsWithin ran.trace.door trail.turns }
 {}
 
-/// A line that runs stands as it did behind the turns of others.
+/// A line that runs stands as it did behind the turns of others, where lines don't run whole.
 pub fn others_stay()
-    ensures { (asked : Asked) (ran : Ran) (stand later : Line → Stand) (line other : Line) (hold : Hold) (trail : Trail) (added : Added) → Driven asked ran stand line hold trail → MayGoOn asked stand other → maker_of added ≡ line_of other → IsFalse (same_line (line_of line) (line_of other)) → Account asked (with_added added ran) later → MayGoOn asked later line → later line ≡ Runs → RanksLast asked (with_added added ran) (line_of line) → Driven asked (with_added added ran) later line hold trail }
+    ensures { (asked : Asked) (ran : Ran) (stand later : Line → Stand) (line other : Line) (hold : Hold) (trail : Trail) (added : Added) → Driven asked ran stand line hold trail → MayGoOn asked stand other → maker_of added ≡ line_of other → IsFalse (same_line (line_of line) (line_of other)) → whole_order asked ≡ None → Account asked (with_added added ran) later → MayGoOn asked later line → later line ≡ Runs → RanksLast asked (with_added added ran) (line_of line) → Driven asked (with_added added ran) later line hold trail }
 {}

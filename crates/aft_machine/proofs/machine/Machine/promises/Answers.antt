@@ -16,8 +16,8 @@ returns-in-Begin-clause-promises c hold capacity time clock trail holds told =
     subst (λ (m : Machine). made_of capacity time m trail → Promises (by_of m) (command_of m) hold capacity clock (is_over m) trail) (sym c.in-Begin.is) (λ made.
     promised c.in-Begin.line.by (command_of (Begin c.in-Begin.line)) hold capacity clock trail (next_of (Begin c.in-Begin.line))
     (λ view ran looked. c.so_far.ensures.goes hold capacity trail view made ran looked)
-    (λ view ran is done looked. c.so_far.ensures.ends hold capacity trail view made ran done looked)
-    (λ seen sees. c.so_far.ensures.sees trail seen made sees)
+    (λ view ran is done looked late. c.so_far.ensures.ends hold capacity trail view made ran done looked)
+    (λ seen rest sees begins. c.so_far.ensures.sees trail seen made sees)
     (claim_reads clock c.in-Begin.line.aim c.in-Begin.line.by c.in-Begin.line.node c.in-Begin.line.uuid c.in-Begin.line.stage trail made))
 
 pub returns-in-Forget-clause-promises : goal.returns-in-Forget-clause-promises
@@ -25,8 +25,8 @@ returns-in-Forget-clause-promises c hold capacity time clock trail holds told =
     subst (λ (m : Machine). made_of capacity time m trail → Promises (by_of m) (command_of m) hold capacity clock (is_over m) trail) (sym c.in-Forget.is) (λ made.
     promised c.in-Forget.line.by (command_of (Forget c.in-Forget.line hold)) hold capacity clock trail (next_of (Forget c.in-Forget.line hold))
     (λ view ran looked. c.so_far-in-Forget.ensures.goes hold capacity trail view made ran looked)
-    (λ view ran is done looked. c.so_far-in-Forget.ensures.ends hold capacity trail view made ran done looked)
-    (λ seen sees. c.so_far-in-Forget.ensures.sees trail seen made sees)
+    (λ view ran is done looked late. c.so_far-in-Forget.ensures.ends hold capacity trail view made ran done looked)
+    (λ seen rest sees begins. c.so_far-in-Forget.ensures.sees trail seen made sees)
     (claim_reads clock c.in-Forget.line.aim c.in-Forget.line.by c.in-Forget.line.node c.in-Forget.line.uuid c.in-Forget.line.stage trail made))
 
 pub returns-in-Read-clause-promises : goal.returns-in-Read-clause-promises
@@ -35,8 +35,8 @@ returns-in-Read-clause-promises c hold capacity time clock trail holds told =
     subst (λ (h : Hold). Promises c.in-Read.line.by (command_of (Read c.in-Read.line)) h capacity clock (is_over (Read c.in-Read.line)) trail) same
     (promised c.in-Read.line.by (command_of (Read c.in-Read.line)) c.in-Read.line.hold capacity clock trail (next_of (Read c.in-Read.line))
     (λ view ran looked. c.so_far-in-Read.ensures.goes capacity trail view made ran)
-    (λ view ran is done looked. c.so_far-in-Read.ensures.ends capacity trail view made ran done looked)
-    (λ seen sees. c.so_far-in-Read.ensures.sees capacity trail seen made sees)
+    (λ view ran is done looked late. c.so_far-in-Read.ensures.ends capacity trail view made ran done looked)
+    (λ seen rest sees begins. c.so_far-in-Read.ensures.sees capacity trail seen made sees)
     (get_reads clock capacity c.in-Read.line.by c.in-Read.line.hold c.in-Read.line.key c.in-Read.line.stage trail made))) holds
 
 pub returns-in-Finish-clause-promises : goal.returns-in-Finish-clause-promises
@@ -45,8 +45,8 @@ returns-in-Finish-clause-promises c hold capacity time clock trail holds told =
     subst (λ (h : Hold). Promises c.in-Finish.line.by (command_of (Finish c.in-Finish.line)) h capacity clock (is_over (Finish c.in-Finish.line)) trail) same
     (promised c.in-Finish.line.by (command_of (Finish c.in-Finish.line)) c.in-Finish.line.hold capacity clock trail (next_of (Finish c.in-Finish.line))
     (λ view ran looked. c.so_far-in-Finish.ensures.goes time capacity trail view made ran looked)
-    (λ view ran is done looked. c.so_far-in-Finish.ensures.ends time capacity trail view made ran (subst (λ (k : Option ℕ). IsTrue (is_clock_time k time)) (sym is) told) done looked)
-    (λ seen sees. c.so_far-in-Finish.ensures.sees time trail seen made sees)
+    (λ view ran is done looked late. c.so_far-in-Finish.ensures.ends time capacity trail view made ran (subst (λ (k : Option ℕ). IsTrue (is_clock_time k time)) (sym is) told) done looked)
+    (λ seen rest sees begins. c.so_far-in-Finish.ensures.sees time trail seen made sees)
     (finish_reads clock time told trail.turns (c.so_far-in-Finish.ensures.reads time trail made)))) holds
 
 pub returns-in-Put-clause-promises : goal.returns-in-Put-clause-promises
@@ -55,8 +55,8 @@ returns-in-Put-clause-promises c hold capacity time clock trail holds told =
     subst (λ (h : Hold). Promises c.in-Put.line.by (command_of (Put c.in-Put.line)) h capacity clock (is_over (Put c.in-Put.line)) trail) same
     (promised c.in-Put.line.by (command_of (Put c.in-Put.line)) c.in-Put.line.hold capacity clock trail (next_of (Put c.in-Put.line))
     (λ view ran looked. c.so_far-in-Put.ensures.goes capacity trail view made ran)
-    (λ view ran is done looked. c.so_far-in-Put.ensures.ends capacity trail view made ran done)
-    (λ seen sees. c.so_far-in-Put.ensures.sees trail seen made)
+    (λ view ran is done looked late. c.so_far-in-Put.ensures.ends capacity trail view made ran done)
+    (λ seen rest sees begins. c.so_far-in-Put.ensures.sees trail seen made)
     (put_reads clock c.in-Put.line.by c.in-Put.line.hold c.in-Put.line.key c.in-Put.line.value c.in-Put.line.stage trail made))) holds
 
 pub returns-in-Begin-clause-unanswered : goal.returns-in-Begin-clause-unanswered
