@@ -1,38 +1,34 @@
 -- The turns of a machine read the run's clock, where they read one.
-use Rattle.std.proofs.Common.{◌≡◌, ℕ, Bool, true, ◌&&◌, List, [], ◌∷◌, ◌++◌, refl, sym, ap, subst, ◌∙◌, inl, inr}
+use Rattle.std.proofs.Common.{◌≡◌, ℕ, List, [], ◌∷◌, ◌++◌, refl, sym, ap, subst, ◌∙◌, inl, inr}
 use Rattle.std.specs.Prelude.{IsTrue, None, Option, Some}
 use Rattle.std.specs.List.{list_all}
 use Rattle.std.proofs.lemmas.Bool.{and_from, and_parts, eqb-true}
 use Rattle.std.proofs.lemmas.List.Folds.{list_all-append}
-use Rattle.aft_id.specs.declared.txn_id.TxnId.{TxnId}
+use Rattle.aft_records.specs.declared.stored.Commit.{Commit}
 use Rattle.aft_model.specs.declared.caller.Attempt.{Attempt}
 use Rattle.aft_model.specs.declared.caller.By.{By}
 use Rattle.aft_model.specs.declared.caller.Hold.{Hold}
-use Rattle.aft_model.specs.declared.door.DoorEntry.{DoorEntry}
 use Rattle.aft_model.specs.declared.node.NodeAct.{NodeAct}
 use Rattle.aft_model.specs.declared.node.NodeAct.TheVariants as acts
 use Rattle.aft_model.specs.declared.node.NodeEntry.{NodeEntry}
 use Rattle.aft_model.specs.declared.reply.Reply.{Reply}
+use Rattle.aft_model.specs.declared.script.Command.{Command}
 use Rattle.aft_lines.specs.LegalTrace.{act_at, is_clock_time}
+use Rattle.aft_lines.specs.LineView.{LineView}
+use Rattle.aft_lines.specs.Makes.{makes_at_node}
 use Rattle.aft_lines.specs.Turns.{AtDoor, AtNode, AtOffice, Turn}
 use Rattle.aft_begin.specs.Made as begins
-use Rattle.aft_begin.specs.View.{ClaimView}
 use Rattle.aft_begin.specs.Way.{Claimed, Deleted, LookedForMarker, LookedForRecord, Unclaimed, Way, release_turns, way_turns}
 use Rattle.aft_begin.specs.declared.aim.Aim.{Aim}
 use Rattle.aft_begin.specs.declared.sought.Sought.TheVariants.{Marker, Record}
 use Rattle.aft_begin.specs.declared.stage.Stage.{Stage as ClaimStage}
 use Rattle.aft_begin.specs.declared.stage.Stage.TheVariants as claims
 use Rattle.aft_commit.specs.Made.{act_reads, turn_reads}
-use Rattle.aft_machine.specs.PutMade as puts
-use Rattle.aft_machine.specs.declared.buffering.Stage.{Stage as PutStage}
-use Rattle.aft_machine.specs.declared.buffering.Stage.TheVariants as putting
-use Rattle.aft_node.specs.declared.goes.Got.{Got}
-use Rattle.aft_node.specs.declared.goes.Got.TheVariants.{Refused, Version}
-use Rattle.aft_read.specs.Made as reads
-use Rattle.aft_read.specs.declared.stage.Stage.{Stage as ReadStage}
-use Rattle.aft_read.specs.declared.stage.Stage.TheVariants as reading
+use Rattle.aft_turns.specs.Stands.{GoesRightly, RanSo, is_right}
 use Rattle.aft_turns.specs.Trail.{Trail}
+use Rattle.law_accounts.proofs.Lists.{all_so}
 use Rattle.law_driver.specs.Driven.{reads_clock}
+use Rattle.law_driver.proofs.Rights.{right_parts}
 
 module _ (clock : Option ℕ) where
   abbrev AllRead : List Turn → Type 0
@@ -86,55 +82,38 @@ module _ (clock : Option ℕ) where
     claim_reads (claims.Ended given) trail (inl once) = subst AllRead (sym once.turns) refl
     claim_reads (claims.Ended given) trail (inr later) = later_reads given trail later
 
-  -- ---- a get
+  -- ---- a line whose command makes no start of a commit at its node
 
-  module _ (capacity : ℕ) (by : By) (hold : Hold) (key : List ℕ) where
-    once_reads : (trail : Trail) → reads.EndedAtOnce capacity by hold key trail → AllRead trail.turns
-    once_reads trail once = subst AllRead (sym once.turns) (by_answer once.answers)
-      where
-        by_answer : reads.AnswersAtOnce capacity hold key once.before once.act once.answer → AllRead (reads.turn_at by hold once.before once.front once.act once.answer ∷ [])
-        by_answer (inl (did, told)) = at_node hold.node by once.before once.front once.act acts.Nothing once.answer did refl
-        by_answer (inr (inl (did, some, told, ours))) = at_node hold.node by once.before once.front once.act acts.Nothing once.answer did refl
-        by_answer (inr (inr (a, what, picks, some, did, told))) = at_node hold.node by once.before once.front once.act (acts.Select a key what) once.answer did refl
+  module _ (command : Command) (no_start : (a : Attempt) (now : ℕ) (c : Commit) → IsTrue (makes_at_node command (acts.Start a now c)) → ⊥) where
+    made_reads : (act : NodeAct) → IsTrue (makes_at_node command act) → IsTrue (act_at clock act)
+    made_reads (acts.Start a now c) made = absurd (no_start a now c made)
+    made_reads act made = refl
 
-    picked_reads : (a : Attempt) (id : TxnId) (first : Turn) (more : List Turn) → reads.HasPicked capacity by hold key a id first → AllRead more → AllRead (first ∷ more)
-    picked_reads a id first more picked all = subst (λ (t : Turn). AllRead (t ∷ more)) (sym picked.turn) all
+    right_reads : (hold : Hold) (turn : Turn) → IsTrue (is_right command hold turn) → IsTrue (reads_clock clock turn)
+    right_reads hold (AtNode node before entry) right = made_reads entry.act (right_parts command hold (AtNode node before entry) right).0
+    right_reads hold (AtDoor place act) right = refl
+    right_reads hold (AtOffice before entry) right = refl
 
-    came_reads : (a : Attempt) (id : TxnId) (got : Got) (place : ℕ) (trail : Trail) → reads.CameBack capacity by hold key a id got place trail → AllRead trail.turns
-    came_reads a id got place trail came = subst AllRead (sym came.turns) (picked_reads a id came.first came.more came.picked (by_fetch came.more came.fetched))
-      where
-        by_fetch : (more : List Turn) → reads.Fetched a key id got place trail.look more → AllRead more
-        by_fetch more (inl (none, was)) = subst AllRead (sym none) refl
-        by_fetch more (inr (answer, words, one, came_so)) = subst AllRead (sym one) refl
+    -- the line as it ran, for what reads no more of it than its words and its turns
+    abbrev ran : By → Hold → ℕ → Trail → LineView
+    ran by hold capacity trail = record {
+      by = by;
+      command = command;
+      hold = hold;
+      settings = record { nodes = 1; cache = capacity; mailbox = 1; rounds = 0 };
+      clock = clock;
+      turns = trail.turns;
+      posts = [];
+      since = 0;
+      seen = trail.look;
+      nodes = [];
+      before = None;
+    }
 
-    ended_reads : (trail : Trail) → reads.EndedFetch capacity by hold key trail → AllRead trail.turns
-    ended_reads trail ended =
-        subst AllRead (sym ended.turns)
-        (both_read ended.since.turns _ (came_reads ended.attempt ended.id ended.got ended.place ended.since ended.came) (by_closing ended.got ended.closes))
-      where
-        by_closing : (got : Got) → reads.Closes ended.attempt key ended.id ended.place got ended.before ended.act ended.answer → AllRead (reads.turn_at by hold ended.before ended.front ended.act ended.answer ∷ [])
-        by_closing (Version value) (inl (kept, did, told)) = at_node hold.node by ended.before ended.front ended.act (acts.Value ended.attempt key ended.id ended.place kept) ended.answer did refl
-        by_closing (Refused reply) (inl (did, told)) = at_node hold.node by ended.before ended.front ended.act (acts.Lost ended.attempt key ended.id) ended.answer did refl
-        by_closing got (inr (left, did, told)) = at_node hold.node by ended.before ended.front ended.act acts.Nothing ended.answer did refl
-
-    pub get_reads : (stage : ReadStage) (trail : Trail) → reads.made_at capacity by hold key stage trail → AllRead trail.turns
-    get_reads (reading.Begins asked) trail (same, none) = subst AllRead (sym (ap (λ (t : Trail). t.turns) none)) refl
-    get_reads (reading.Fetches a asked id) trail (same, begun) = subst AllRead (sym begun.turns) (picked_reads a id begun.first [] begun.picked refl)
-    get_reads (reading.Comes a asked id got place) trail (same, came) = came_reads a id got place trail came
-    get_reads reading.Ended trail (inl once) = once_reads trail once
-    get_reads reading.Ended trail (inr ended) = ended_reads trail ended
-
-  -- ---- a put
-
-  pub put_reads : (by : By) (hold : Hold) (key value : List ℕ) (stage : PutStage) (trail : Trail) → puts.made_at by hold key value stage trail → AllRead trail.turns
-  put_reads by hold key value (putting.Begins asked given) trail (same_key, same_value, none) = subst AllRead (sym (ap (λ (t : Trail). t.turns) none)) refl
-  put_reads by hold key value putting.Ended trail it = subst AllRead (sym it.turns) (by_puts it.puts)
-    where
-      by_puts : puts.Puts hold key value it.before it.act it.answer → AllRead (reads.turn_at by hold it.before it.front it.act it.answer ∷ [])
-      by_puts (inl (did, told)) = at_node hold.node by it.before it.front it.act acts.Nothing it.answer did refl
-      by_puts (inr (inl (did, some, told, ours))) = at_node hold.node by it.before it.front it.act acts.Nothing it.answer did refl
-      by_puts (inr (inr (inl (a, runs, room, did, told)))) = at_node hold.node by it.before it.front it.act (acts.Put a key value) it.answer did refl
-      by_puts (inr (inr (inr (a, runs, full, did, told)))) = at_node hold.node by it.before it.front it.act acts.Nothing it.answer did refl
+    pub goes_reads : (by : By) (hold : Hold) (capacity : ℕ) (trail : Trail) → ((view : LineView) → RanSo command hold capacity trail view → GoesRightly view) → AllRead trail.turns
+    goes_reads by hold capacity trail goes =
+        all_so (is_right command hold) (reads_clock clock) (right_reads hold) trail.turns
+        (goes (ran by hold capacity trail) (record { asked = refl; held = refl; cache = refl; turns = refl })).right
 
   -- ---- a commit and an abort, whose start reads the clock that it was handed
 

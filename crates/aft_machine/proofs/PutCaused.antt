@@ -22,14 +22,14 @@ use Rattle.aft_model.proofs.Sights.{bytes_eq-refl}
 use Rattle.aft_ledger.specs.Turns.{may_put}
 use Rattle.aft_lines.specs.Causes.{Caused}
 use Rattle.aft_lines.specs.CausesAttempts.{holds_value, is_refused_by, state_in}
-use Rattle.aft_lines.specs.CausesNodes.{is_lost, is_of_held, is_unserved}
+use Rattle.aft_lines.specs.CausesNodes.{is_of_held, is_unserved}
 use Rattle.aft_lines.specs.LineView.{LineView, is_served, node_turns}
 use Rattle.law_attempts.proofs.Acts.{buffer-snoc}
 use Rattle.law_attempts.proofs.Buffers.{buffered_with}
 use Rattle.law_attempts.proofs.Standing.{same_itself}
 use Rattle.aft_node.specs.Held.{get_refusal, running_refusal}
 use Rattle.aft_turns.proofs.Views.{with_words}
-use Rattle.aft_read.specs.Made.{refusal_at, turn_at}
+use Rattle.aft_read.specs.Made.{turn_at}
 use Rattle.aft_read.proofs.Picked.{found_so}
 use Rattle.aft_machine.specs.PutMade.{Puts, Runs}
 

@@ -3,10 +3,11 @@ use Rattle.std.specs.Prelude.{Bool, List, false, ℕ}
 use Rattle.aft_model.specs.declared.door.DoorEntry.{DoorEntry}
 use Rattle.aft_model.specs.declared.node.NodeEntry.{NodeEntry}
 use Rattle.aft_begin.specs.Made as begins
+use Rattle.aft_boot.specs.Booted as boots
 use Rattle.aft_commit.specs.Asks as finishes
 use Rattle.aft_commit.specs.View as finishing
 use Rattle.aft_machine.specs.declared.machine.Machine.{Machine}
-use Rattle.aft_machine.specs.declared.machine.Machine.TheVariants.{Begin, Finish, Forget, Put, Read}
+use Rattle.aft_machine.specs.declared.machine.Machine.TheVariants.{Begin, Crash, Finish, Forget, Put, Read, Start}
 use Rattle.aft_read.specs.Made as reads
 
 -- ---- what is asked of the caller
@@ -18,6 +19,8 @@ may_close (Forget line hold) history = begins.may_close line history
 may_close (Read line) history = reads.may_close line history
 may_close (Finish line) history = finishes.may_close line history
 may_close (Put line) history = Unit {0}
+may_close (Crash line hold) history = Unit {0}
+may_close (Start line hold) history = boots.may_close line history
 
 -- at the door: what a put stores keeps the limits
 abbrev pub IsStorable : Machine → Type 0
@@ -39,14 +42,18 @@ MayEnd now clock (Forget line hold) history = begins.MayEnd line history
 MayEnd now clock (Read line) history = reads.MayEnd line history
 MayEnd now clock (Finish line) history = finishing.ReadsClock line now clock × finishes.MayEnd line history
 MayEnd now clock (Put line) history = Unit {0}
+MayEnd now clock (Crash line hold) history = Unit {0}
+MayEnd now clock (Start line hold) history = boots.MayEnd line history
 
--- at the door: the attempt's incarnation has come up, and unless it was fenced is up and holds the UUID as the line's course says
+-- at the door: the attempt's incarnation has come up, and unless it was fenced is up and holds the UUID as the line's course says; and that of a start may come up, or has
 abbrev pub MayCall : Machine → List DoorEntry → Type 0
 MayCall (Begin line) history = begins.MayCall line history
 MayCall (Forget line hold) history = begins.MayCall line history
 MayCall (Read line) history = reads.HasComeUp line history
 MayCall (Finish line) history = finishes.MayCall line history
 MayCall (Put line) history = Unit {0}
+MayCall (Crash line hold) history = Unit {0}
+MayCall (Start line hold) history = boots.MayCall line history
 
 -- ---- failures
 
@@ -62,3 +69,5 @@ told_fault old (Forget line hold) = begins.told_fault line
 told_fault old (Read line) = reads.told_fault line
 told_fault old (Finish line) = finish_failed old line
 told_fault old (Put line) = false
+told_fault old (Crash line hold) = false
+told_fault old (Start line hold) = boots.told_fault line

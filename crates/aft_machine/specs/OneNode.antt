@@ -1,6 +1,5 @@
 -- Any machine of a line that keeps to one node and the door: its line, how far it has come, and what it has made.
-use Rattle.std.specs.Prelude.{Bool, List, Option, false, length, true, ℕ, ◌≡◌, ◌≤◌}
-use Rattle.aft_model.specs.declared.caller.Attempt.{Attempt}
+use Rattle.std.specs.Prelude.{Bool, List, false, length, true, ℕ, ◌≡◌, ◌≢◌, ◌≤◌}
 use Rattle.aft_model.specs.declared.caller.By.{By}
 use Rattle.aft_model.specs.declared.caller.Hold.{Hold}
 use Rattle.aft_model.specs.declared.script.Command.{Command}
@@ -9,25 +8,31 @@ use Rattle.aft_lines.specs.Lines.{attempt_of}
 use Rattle.aft_lines.specs.Turns.{Turn}
 use Rattle.aft_begin.specs.Made as begins
 use Rattle.aft_begin.specs.View as claims
+use Rattle.aft_boot.specs.Booted as boots
+use Rattle.aft_boot.specs.BootView as booting
+use Rattle.aft_boot.specs.CrashView as crashing
+use Rattle.aft_boot.specs.Crashed as crashes
 use Rattle.aft_commit.specs.Made as finishes
 use Rattle.aft_commit.specs.View as finishing
 use Rattle.aft_machine.specs.PutMade as puts
 use Rattle.aft_machine.specs.PutView as putting
 use Rattle.aft_machine.specs.declared.machine.Machine.{Machine}
-use Rattle.aft_machine.specs.declared.machine.Machine.TheVariants.{Begin, Finish, Forget, Put, Read}
+use Rattle.aft_machine.specs.declared.machine.Machine.TheVariants.{Begin, Crash, Finish, Forget, Put, Read, Start}
 use Rattle.aft_read.specs.Made as reads
 use Rattle.aft_read.specs.View as reading
 use Rattle.aft_turns.specs.Trail.{Trail}
 use Rattle.aft_turns.specs.declared.turn.Where.{Where}
 use Rattle.aft_turns.specs.declared.turn.Where.TheVariants as places
 
--- a line has a machine here: it begins, puts, gets, commits, aborts or forgets; and what it puts is short enough
+-- a line has a machine here: it begins, puts, gets, commits, aborts, crashes, starts or forgets; what it puts is short enough, and what it crashes or starts isn't the office
 abbrev pub HasMachine : Command → Type 0
 HasMachine (commands.Begin uuid node) = Unit {0}
 HasMachine (commands.Put key value) = length value ≤ 4096
 HasMachine (commands.Get key) = Unit {0}
 HasMachine commands.Commit = Unit {0}
 HasMachine commands.Abort = Unit {0}
+HasMachine (commands.Crash node) = node ≢ 0
+HasMachine (commands.Start node) = node ≢ 0
 HasMachine (commands.Forget uuid node) = Unit {0}
 HasMachine order = ⊥
 
@@ -40,6 +45,8 @@ by_of (Forget line hold) = line.by
 by_of (Read line) = line.by
 by_of (Finish line) = line.by
 by_of (Put line) = line.by
+by_of (Crash line hold) = line.by
+by_of (Start line hold) = line.by
 
 -- what is asked
 abbrev pub command_of : Machine → Command
@@ -48,6 +55,8 @@ command_of (Forget line hold) = commands.Forget line.uuid line.node
 command_of (Read line) = commands.Get line.key
 command_of (Finish line) = finishes.command_of line.aborts
 command_of (Put line) = commands.Put line.key line.value
+command_of (Crash line hold) = commands.Crash line.node
+command_of (Start line hold) = commands.Start line.node
 
 -- its client held this before it, of which a begin knows nothing
 abbrev pub Holds : Machine → Hold → Type 0
@@ -56,6 +65,8 @@ Holds (Forget line hold) held = hold ≡ held
 Holds (Read line) held = line.hold ≡ held
 Holds (Finish line) held = line.hold ≡ held
 Holds (Put line) held = line.hold ≡ held
+Holds (Crash line hold) held = hold ≡ held
+Holds (Start line hold) held = hold ≡ held
 
 -- what its client holds behind it: what a begin gives, or else what it held before
 abbrev pub hold_behind : Machine → Hold
@@ -64,6 +75,8 @@ hold_behind (Forget line hold) = hold
 hold_behind (Read line) = line.hold
 hold_behind (Finish line) = line.hold
 hold_behind (Put line) = line.hold
+hold_behind (Crash line hold) = hold
+hold_behind (Start line hold) = hold
 
 -- ---- how far it has come
 
@@ -74,6 +87,8 @@ next_of (Forget line hold) = claims.next_of line
 next_of (Read line) = reading.next_of line
 next_of (Finish line) = finishing.next_of line
 next_of (Put line) = putting.next_of line
+next_of (Crash line hold) = crashing.next_of line
+next_of (Start line hold) = booting.next_of line
 
 -- how many turns are left at most
 abbrev pub left_of : Machine → ℕ
@@ -82,6 +97,8 @@ left_of (Forget line hold) = claims.left_of line
 left_of (Read line) = reading.left_of line
 left_of (Finish line) = finishing.left_of line
 left_of (Put line) = putting.left_of line
+left_of (Crash line hold) = crashing.left_of line
+left_of (Start line hold) = booting.left_of line
 
 -- whether no turn is left
 abbrev pub is_nowhere : Where → Bool
@@ -100,6 +117,8 @@ made_of capacity clock (Forget line hold) trail = begins.Made line trail
 made_of capacity clock (Read line) trail = reads.Made capacity line trail
 made_of capacity clock (Finish line) trail = finishes.Made clock line trail
 made_of capacity clock (Put line) trail = puts.Made line trail
+made_of capacity clock (Crash line hold) trail = crashes.Made line trail
+made_of capacity clock (Start line hold) trail = boots.Made line trail
 
 -- what a begin gives its client is what these turns say
 abbrev pub GivesSo : Machine → List Turn → Type 0

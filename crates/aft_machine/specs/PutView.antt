@@ -1,5 +1,5 @@
 -- What a put shows: its line, what its client holds, the key, the value, and how far it has come.
-use Rattle.std.specs.Prelude.{List, length, ℕ, ◌≡◌, ◌≤◌}
+use Rattle.std.specs.Prelude.{List, length, ℕ, ◌≤◌}
 use Rattle.aft_model.specs.declared.caller.By.{By}
 use Rattle.aft_model.specs.declared.caller.Hold.{Hold}
 use Rattle.aft_machine.specs.declared.buffering.Stage.{Stage}

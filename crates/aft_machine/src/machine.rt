@@ -17,6 +17,7 @@ ghost use Rattle.law_driver.specs.Driven.{Promises};
 
 use crate::putting::Putting;
 use aft_begin::{Begin, Forget};
+use aft_boot::{Boot, Crash};
 use aft_commit::Finish;
 use aft_door::Door;
 use aft_id::Memory;
@@ -37,6 +38,10 @@ pub enum Machine {
     /// A commit or an abort.
     Finish(Finish),
     Put(Putting),
+    /// A crash, and what its client holds.
+    Crash(Crash, Hold),
+    /// A start, and what its client holds.
+    Start(Boot, Hold),
 }
 
 impl Machine {
@@ -61,6 +66,8 @@ impl Machine {
             Command::Get { key } => Machine::Read(Read::new(alloc, by, hold, key.clone()?)),
             Command::Commit => Machine::Finish(Finish::commit(alloc, by, hold)),
             Command::Abort => Machine::Finish(Finish::abort(alloc, by, hold)),
+            Command::Crash { node } => Machine::Crash(Crash::new(by, *node), hold),
+            Command::Start { node } => Machine::Start(Boot::new(alloc, by, *node), hold),
             _ => unreachable!(),
         })
     }
@@ -75,10 +82,12 @@ impl Machine {
             Machine::Read(line) => line.next(),
             Machine::Finish(line) => line.next(),
             Machine::Put(line) => line.next(),
+            Machine::Crash(line, _) => line.next(),
+            Machine::Start(line, _) => line.next(),
         }
     }
 
-    /// How many turns are left at most: 39 at first.
+    /// How many turns are left at most: at first 316 of a start, and 39 of any other line.
     pub fn left(&self) -> u32
         ensures { result ≡ left_of self.now }
     {
@@ -88,6 +97,8 @@ impl Machine {
             Machine::Read(line) => line.left(),
             Machine::Finish(line) => line.left(),
             Machine::Put(line) => line.left(),
+            Machine::Crash(line, _) => line.left(),
+            Machine::Start(line, _) => line.left(),
         }
     }
 
@@ -102,6 +113,8 @@ impl Machine {
             Machine::Read(line) => line.hold(),
             Machine::Finish(line) => line.hold(),
             Machine::Put(line) => line.hold(),
+            Machine::Crash(_, hold) => *hold,
+            Machine::Start(_, hold) => *hold,
         }
     }
 
@@ -122,6 +135,8 @@ impl Machine {
             Machine::Read(line) => line.at_node(node, front, now),
             Machine::Finish(line) => line.at_node(node, front, now),
             Machine::Put(line) => line.at_node(node, front, now),
+            Machine::Crash(line, _) => line.at_node(node, front, now),
+            Machine::Start(line, _) => line.at_node(node, front, now),
         }
     }
 
@@ -145,6 +160,8 @@ impl Machine {
             Machine::Read(line) => line.at_door(door),
             Machine::Finish(line) => line.at_door(door),
             Machine::Put(_) => unreachable!(),
+            Machine::Crash(line, _) => line.at_door(door),
+            Machine::Start(line, _) => line.at_door(door),
         }
     }
 
@@ -161,6 +178,8 @@ impl Machine {
             Machine::Read(line) => line.so_far(),
             Machine::Finish(line) => line.so_far(),
             Machine::Put(line) => line.so_far(),
+            Machine::Crash(line, _) => line.so_far(),
+            Machine::Start(line, _) => line.so_far(),
         }
     }
 }

@@ -1,13 +1,14 @@
-use Rattle.std.proofs.Common.{sym, ◌≡◌, ◌≤◌, subst, ℕ}
+use Rattle.std.proofs.Common.{sym, ◌≤◌, subst, ℕ}
 use Rattle.std.specs.Prelude.{IsTrue, Option}
+use Rattle.std.proofs.lemmas.Bool.{false≢true}
 use Rattle.aft_lines.specs.LegalTrace.{is_clock_time}
 use Rattle.aft_model.specs.declared.caller.Hold.{Hold}
 use Rattle.aft_machine.specs.OneNode.{Holds, by_of, command_of, is_over, left_of, made_of, next_of}
 use Rattle.aft_machine.specs.declared.machine.Machine.{Machine}
-use Rattle.aft_machine.specs.declared.machine.Machine.TheVariants.{Begin, Finish, Forget, Put, Read}
+use Rattle.aft_machine.specs.declared.machine.Machine.TheVariants.{Begin, Crash, Finish, Forget, Put, Read, Start}
 use Rattle.aft_turns.specs.Stands.{IsUnanswered, RanSo}
 use Rattle.aft_machine.proofs.Promised.{promised}
-use Rattle.aft_machine.proofs.Clocks.{claim_reads, finish_reads, get_reads, put_reads}
+use Rattle.aft_machine.proofs.Clocks.{claim_reads, finish_reads, goes_reads}
 use Rattle.law_driver.specs.Driven.{Promises}
 use Rattle.aft_machine.proofs.machine.Machine.promises.Goals as goal
 
@@ -37,7 +38,7 @@ returns-in-Read-clause-promises c hold capacity time clock trail holds told =
     (λ view ran looked. c.so_far-in-Read.ensures.goes capacity trail view made ran)
     (λ view ran is done looked late. c.so_far-in-Read.ensures.ends capacity trail view made ran done looked)
     (λ seen rest sees begins. c.so_far-in-Read.ensures.sees capacity trail seen made sees)
-    (get_reads clock capacity c.in-Read.line.by c.in-Read.line.hold c.in-Read.line.key c.in-Read.line.stage trail made))) holds
+    (goes_reads clock (command_of (Read c.in-Read.line)) (λ a now commit makes. false≢true makes) c.in-Read.line.by c.in-Read.line.hold capacity trail (λ view ran. c.so_far-in-Read.ensures.goes capacity trail view made ran)))) holds
 
 pub returns-in-Finish-clause-promises : goal.returns-in-Finish-clause-promises
 returns-in-Finish-clause-promises c hold capacity time clock trail holds told =
@@ -57,7 +58,25 @@ returns-in-Put-clause-promises c hold capacity time clock trail holds told =
     (λ view ran looked. c.so_far-in-Put.ensures.goes capacity trail view made ran)
     (λ view ran is done looked late. c.so_far-in-Put.ensures.ends capacity trail view made ran done)
     (λ seen rest sees begins. c.so_far-in-Put.ensures.sees trail seen made)
-    (put_reads clock c.in-Put.line.by c.in-Put.line.hold c.in-Put.line.key c.in-Put.line.value c.in-Put.line.stage trail made))) holds
+    (goes_reads clock (command_of (Put c.in-Put.line)) (λ a now commit makes. false≢true makes) c.in-Put.line.by c.in-Put.line.hold capacity trail (λ view ran. c.so_far-in-Put.ensures.goes capacity trail view made ran)))) holds
+
+pub returns-in-Crash-clause-promises : goal.returns-in-Crash-clause-promises
+returns-in-Crash-clause-promises c hold capacity time clock trail holds told =
+    subst (λ (m : Machine). made_of capacity time m trail → Promises (by_of m) (command_of m) hold capacity clock (is_over m) trail) (sym c.in-Crash.is) (λ made.
+    promised c.in-Crash.line.by (command_of (Crash c.in-Crash.line hold)) hold capacity clock trail (next_of (Crash c.in-Crash.line hold))
+    (λ view ran looked. c.so_far-in-Crash.ensures.goes hold capacity trail view made ran)
+    (λ view ran is done looked late. c.so_far-in-Crash.ensures.ends hold capacity trail view made ran done looked late)
+    (λ seen rest sees begins. c.so_far-in-Crash.ensures.sees trail seen made sees)
+    (goes_reads clock (command_of (Crash c.in-Crash.line hold)) (λ a now commit makes. false≢true makes) c.in-Crash.line.by hold capacity trail (λ view ran. c.so_far-in-Crash.ensures.goes hold capacity trail view made ran)))
+
+pub returns-in-Start-clause-promises : goal.returns-in-Start-clause-promises
+returns-in-Start-clause-promises c hold capacity time clock trail holds told =
+    subst (λ (m : Machine). made_of capacity time m trail → Promises (by_of m) (command_of m) hold capacity clock (is_over m) trail) (sym c.in-Start.is) (λ made.
+    promised c.in-Start.line.by (command_of (Start c.in-Start.line hold)) hold capacity clock trail (next_of (Start c.in-Start.line hold))
+    (λ view ran looked. c.so_far-in-Start.ensures.goes hold capacity trail view made ran)
+    (λ view ran is done looked late. c.so_far-in-Start.ensures.ends hold capacity trail view made ran done looked)
+    (λ seen rest sees begins. c.so_far-in-Start.ensures.sees trail seen made sees (rest, begins))
+    (goes_reads clock (command_of (Start c.in-Start.line hold)) (λ a now commit makes. false≢true makes) c.in-Start.line.by hold capacity trail (λ view ran. c.so_far-in-Start.ensures.goes hold capacity trail view made ran)))
 
 pub returns-in-Begin-clause-unanswered : goal.returns-in-Begin-clause-unanswered
 returns-in-Begin-clause-unanswered c hold capacity time trail view holds =
@@ -84,3 +103,11 @@ returns-in-Put-clause-unanswered c hold capacity time trail view holds =
     subst (λ (m : Machine). Holds m hold → made_of capacity time m trail → RanSo (command_of m) hold capacity trail view → 1 ≤ left_of m → IsUnanswered view) (sym c.in-Put.is) (λ same made.
     subst (λ (h : Hold). RanSo (command_of (Put c.in-Put.line)) h capacity trail view → 1 ≤ left_of (Put c.in-Put.line) → IsUnanswered view) same
     (λ ran left. c.so_far-in-Put.ensures.unanswered capacity trail view made ran left)) holds
+
+pub returns-in-Crash-clause-unanswered : goal.returns-in-Crash-clause-unanswered
+returns-in-Crash-clause-unanswered c hold capacity time trail view holds =
+    subst (λ (m : Machine). made_of capacity time m trail → RanSo (command_of m) hold capacity trail view → 1 ≤ left_of m → IsUnanswered view) (sym c.in-Crash.is) (λ made ran left. c.so_far-in-Crash.ensures.unanswered hold capacity trail view made ran left)
+
+pub returns-in-Start-clause-unanswered : goal.returns-in-Start-clause-unanswered
+returns-in-Start-clause-unanswered c hold capacity time trail view holds =
+    subst (λ (m : Machine). made_of capacity time m trail → RanSo (command_of m) hold capacity trail view → 1 ≤ left_of m → IsUnanswered view) (sym c.in-Start.is) (λ made ran left. c.so_far-in-Start.ensures.unanswered hold capacity trail view made ran left)
