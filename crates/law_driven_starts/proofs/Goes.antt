@@ -55,6 +55,7 @@ use Rattle.law_driver.specs.Driven.{Driven, IsNode, act_behind, last_act, node_o
 use Rattle.law_driven_starts.specs.Starts.{EndsOwnBoots, IsStartOf, MayCallAtDoor, MayCloseAtNode, MayEndAtNode, stands_newest}
 use Rattle.law_driven_starts.proofs.Ends.{own_boots}
 use Rattle.law_driven_starts.proofs.Newest.{starts_newest}
+use Rattle.law_driven_starts.proofs.OwnBoots.{boots_own}
 
 number_is : (one other : ℕ) → places.Node one ≡ places.Node other → one ≡ other
 number_is one other is = cc
@@ -113,15 +114,18 @@ module _ (asked : Asked) (ran : Ran) (stand : Line → Stand) (line : Line) (hol
         subst (λ (h : List NodeEntry). LegalNode node.number asked.settings.cache h) (sym (is.history ∙ same_history node.number 1 ran.trace.nodes))
         (nodes_rules node.number 1 asked.settings.cache ran.trace.door ran.trace.nodes driven.account.nodes).0
 
-    by_end : EndsOwnBoots node.history → (stage : Stage) → made_at boot.by boot.node stage trail → next_at boot.node stage ≡ places.Node node.number → may_end_at stage node.history
-    by_end ends (ToEnd inc end) made next = own_boots node.number asked.settings.cache boot.by inc node.history legal ends (by_node (ToEnd inc end) made next)
-    by_end ends Begins made next = tt
-    by_end ends (ComesUp inc) made next = tt
-    by_end ends (Scans inc after listed commits) made next = tt
-    by_end ends Ended made next = tt
+    ends_own : EndsOwnBoots node.history
+    ends_own = subst EndsOwnBoots (sym is.history) (boots_own node.number asked ran stand driven.account)
 
-    pub at_end : Made boot trail → EndsOwnBoots node.history → MayEndAtNode boot node
-    at_end made ends next = by_end ends boot.stage made next
+    by_end : (stage : Stage) → made_at boot.by boot.node stage trail → next_at boot.node stage ≡ places.Node node.number → may_end_at stage node.history
+    by_end (ToEnd inc end) made next = own_boots node.number asked.settings.cache boot.by inc node.history legal ends_own (by_node (ToEnd inc end) made next)
+    by_end Begins made next = tt
+    by_end (ComesUp inc) made next = tt
+    by_end (Scans inc after listed commits) made next = tt
+    by_end Ended made next = tt
+
+    pub at_end : Made boot trail → MayEndAtNode boot node
+    at_end made next = by_end boot.stage made next
 
     pub at_node : Made boot trail → MayCloseAtNode boot node
     at_node made next = by_node boot.stage made next

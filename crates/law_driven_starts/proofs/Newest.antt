@@ -81,6 +81,12 @@ up_then other h by (doors.Fence node inc) (inl is) rule = subst (λ (w : Incarna
 up_then other h by (doors.Fence node inc) (inr none) rule = absurd none
 up_then other h by act none rule = absurd none
 
+-- ---- starts
+
+pub start_so : (command : Command) → IsTrue (is_start command) → (home : ℕ) × (command ≡ commands.Start home)
+start_so (commands.Start home) is = (home, refl)
+start_so command is = absurd (false≢true is)
+
 -- ---- a run that has an account
 
 module _ (asked : Asked) (ran : Ran) (stand : Line → Stand) (account : Account asked ran stand) where
@@ -189,10 +195,6 @@ module _ (asked : Asked) (ran : Ran) (stand : Line → Stand) (account : Account
   comes_as : (p : Progress) (who : Incarnation) → to_come_up (Some p) ≡ Some who → starts_at p ≡ Some who
   comes_as (MustComeUp one) who is = is
   comes_as p who is = absurd (let e : None ≡ Some who = is in cc)
-
-  start_so : (command : Command) → IsTrue (is_start command) → (home : ℕ) × (command ≡ commands.Start home)
-  start_so (commands.Start home) is = (home, refl)
-  start_so command is = absurd (false≢true is)
 
   module _ (line : Line) (listed : In line (lines asked)) where
     its_begun : IsTrue (is_start line.order) → (who : Incarnation) → to_come_up (position_of (view_of asked ran line)) ≡ Some who → IsBegun who
