@@ -57,9 +57,6 @@ use Rattle.law_driven_starts.proofs.Ends.{own_boots}
 use Rattle.law_driven_starts.proofs.Newest.{starts_newest}
 use Rattle.law_driven_starts.proofs.OwnBoots.{boots_own}
 
-number_is : (one other : ℕ) → places.Node one ≡ places.Node other → one ≡ other
-number_is one other is = cc
-
 -- turns at the door leave what a line did last at its node
 doors_pass : (mid : List Turn) (before : Option NodeAct) → AreDoor mid → fold act_behind before mid ≡ before
 doors_pass [] before door = refl
@@ -103,7 +100,8 @@ module _ (asked : Asked) (ran : Ran) (stand : Line → Stand) (line : Line) (hol
 
     by_node : (stage : Stage) → made_at boot.by boot.node stage trail → next_at boot.node stage ≡ places.Node node.number → may_close_at boot.by stage node.history
     by_node (ToEnd inc end) made next =
-        subst (λ (o : Option NodeAct). IsTrue (act_passes (opens_boot inc) o)) (sym (last_here (number_is boot.node node.number next) ∙ last_so inc end made)) (eq-eqb inc inc refl)
+        let here : boot.node ≡ node.number = cc in
+        subst (λ (o : Option NodeAct). IsTrue (act_passes (opens_boot inc) o)) (sym (last_here here ∙ last_so inc end made)) (eq-eqb inc inc refl)
     by_node Begins made next = tt
     by_node (ComesUp inc) made next = tt
     by_node (Scans inc after listed commits) made next = tt

@@ -40,13 +40,13 @@ use Rattle.law_runs.proofs.Nodes.{nodes_rules}
 use Rattle.law_runs.proofs.Own.{has_come, makes_all}
 use Rattle.law_runs.proofs.Reading.{is_of_boot, reads_alone}
 use Rattle.law_held.specs.Starting.{is_start}
+use Rattle.law_held.proofs.StartsEnd.{start_so}
 use Rattle.law_accounts.specs.Account.{Account, Stand}
 use Rattle.law_accounts.specs.Adding.{numbered_in}
 use Rattle.law_accounts.proofs.Runs.{account_runs}
 use Rattle.law_accounts.proofs.StopsSeen.{same_history}
 use Rattle.law_driver.proofs.Closing.{last_with_other, last_with_own}
 use Rattle.law_driven_starts.specs.Starts.{EndsOwnBoots, ends_own_at, ends_own_boot}
-use Rattle.law_driven_starts.proofs.Newest.{start_so}
 use Rattle.law_driven_starts.proofs.OneNode.{entries_there, turns_there}
 use Rattle.law_driven_starts.proofs.OwnTurns.{end_own-filter, end_own_from, opening_own, start_own}
 
