@@ -9,3 +9,5 @@ pub mod Knew
 pub mod Values
 pub mod Puts
 pub mod Times
+pub mod ReadIds
+pub mod Origins
