@@ -1,16 +1,17 @@
 -- What is put keeps the limits.
-use Rattle.std.proofs.Common.{◌≡◌, ◌≤◌, ◌<◌, ◌^◌, ℕ, zero, suc, List, [], ◌∷◌, length, sym, subst, arith}
-use Rattle.std.specs.Prelude.{IsTrue, None, Some, nat_le}
+use Rattle.std.proofs.Common.{◌≡◌, ◌≤◌, ◌<◌, ◌^◌, ℕ, zero, suc, Bool, ◌&&◌, List, [], ◌∷◌, length, sym, ap, subst, ◌∙◌, arith}
+use Rattle.std.specs.Prelude.{IsTrue, None, Some, if◌then◌else◌, nat_le, ◌==◌}
 use Rattle.std.specs.List.{list_all, slice_get}
-use Rattle.std.proofs.lemmas.Bool.{and_parts, leb-true}
+use Rattle.std.proofs.lemmas.Bool.{and_from, and_parts, le-leb, leb-true, lt-ltb, ne_eqb}
 use Rattle.std.proofs.lemmas.Bool.Decides.{nat_tests}
 use Rattle.aft_id.specs.declared.txn_id.TxnId.{TxnId}
 use Rattle.aft_id.specs.TxnId.{IsUuid}
 use Rattle.aft_records.specs.declared.stored.Record.{Record}
 use Rattle.aft_records.specs.declared.stored.Version.{Version}
-use Rattle.aft_records.specs.Limits.{AreKeys, IsKey, IsTime}
-use Rattle.aft_records.specs.Stored.{IsRecord, IsVersion}
+use Rattle.aft_records.specs.Limits.{AreKeys, IsKey, IsTime, is_origin}
+use Rattle.aft_records.specs.Stored.{IsOrigin, IsRecord, IsVersion}
 use Rattle.aft_model.specs.declared.caller.Attempt.{Attempt}
+use Rattle.aft_model.specs.Membership.{Incarnation}
 use Rattle.aft_commit.specs.Calls.{IsVersionAt}
 use Rattle.aft_commit.specs.View.{Storable, StorableRecord}
 
@@ -18,8 +19,20 @@ use Rattle.aft_commit.specs.View.{Storable, StorableRecord}
 small : (t : ℕ) → IsTime t → t < 2 ^ 64
 small t is = let lt : t < 2 ^ 48 = grind (arith, nat_tests) in omega arith
 
-pub record_fits : (a : Attempt) (r : Record) → StorableRecord a r → IsUuid r.commit.id.uuid → AreKeys r.commit.keys → IsRecord r
-record_fits a r storable uuid keys = (record { commit = record { id = record { time = small r.commit.id.time storable.timely; uuid = uuid }; keys = keys }; origin = storable.origin }, storable.timely)
+-- the origin of a node's record, whose incarnation fits its type
+pub origin_fits : (a : Attempt) (r : Record) → StorableRecord a r → r.origin.inc < 2 ^ 32 → IsTrue (is_origin r.origin.node r.origin.inc (length r.origin.reads))
+origin_fits a r storable small_inc =
+    and_from _ _
+    (and_from _ _ (le-leb r.origin.node 8 storable.origin.most) (lt-ltb r.origin.inc (2 ^ 32) small_inc))
+    (subst (λ (office : Bool). IsTrue (if office then r.origin.inc == 0 && length r.origin.reads == 0 else nat_le 1 r.origin.inc)) (sym (ne_eqb r.origin.node 0 some_node)) (le-leb 1 r.origin.inc storable.origin.least))
+  where
+    some_node : r.origin.node ≡ 0 → ⊥
+    some_node none = storable.node (sym (ap (λ (who : Incarnation). who.node) storable.own) ∙ none)
+
+pub record_fits : (a : Attempt) (r : Record) → StorableRecord a r → r.origin.inc < 2 ^ 32 → IsUuid r.commit.id.uuid → AreKeys r.commit.keys → IsRecord r
+record_fits a r storable small_inc uuid keys =
+    let origin : IsOrigin r.origin = record { limits = origin_fits a r storable small_inc; reads = storable.origin.reads; uuids = storable.origin.uuids } in
+    (record { commit = record { id = record { time = small r.commit.id.time storable.timely; uuid = uuid }; keys = keys }; origin = origin }, storable.timely)
 
 pub short_at : (values : List (List ℕ)) (count : ℕ) (value : List ℕ) → IsTrue (list_all (λ v. nat_le (length v) 4096) values) → slice_get values count ≡ Some value → length value ≤ 4096
 short_at [] zero value short at = absurd (none_is at)

@@ -1,9 +1,11 @@
 -- What a commit or an abort shows: its line, what its client holds, whether it is an abort, and how far it has come.
-use Rattle.std.specs.Prelude.{Bool, Err, IsTrue, List, Ok, Option, Result, Some, false, length, nat_le, true, ℕ, ◌+◌, ◌-◌, ◌≡◌, ◌≢◌}
+use Rattle.std.specs.Prelude.{All, Bool, Err, IsTrue, List, Ok, Option, Result, Some, false, length, nat_le, true, ℕ, ◌+◌, ◌-◌, ◌≡◌, ◌≢◌, ◌≤◌}
 use Rattle.std.specs.List.{list_all}
+use Rattle.aft_id.specs.TxnId.{IsUuid}
+use Rattle.aft_records.specs.declared.stored.Origin.{Origin}
 use Rattle.aft_records.specs.declared.stored.Record.{Record}
 use Rattle.aft_records.specs.Limits.{IsTime}
-use Rattle.aft_records.specs.Stored.{IsOrigin}
+use Rattle.aft_records.specs.Stored.{AreReads}
 use Rattle.aft_model.specs.declared.caller.Attempt.{Attempt}
 use Rattle.aft_model.specs.declared.caller.By.{By}
 use Rattle.aft_model.specs.declared.caller.Hold.{Hold}
@@ -133,12 +135,19 @@ released_stage false a uuid outcome = Doubts a (replies.NodeDown a.node a.inc)
 
 -- ---- what is stored
 
+-- what the origin of a node's record must be, but that its incarnation is below 2^32, which its type says
+pub record IsNodeOrigin (o : Origin) : Type 0 where
+  pub most : o.node ≤ 8
+  pub least : 1 ≤ o.inc
+  pub reads : AreReads o.reads
+  pub uuids : All (λ id. IsUuid id.uuid) o.reads
+
 -- what a record must be to be put for an attempt: it names the attempt's incarnation as its origin, and keeps the limits
 pub record StorableRecord (a : Attempt) (r : Record) : Type 0 where
   pub node : a.node ≢ 0
   pub own : incarnation r.origin.node r.origin.inc ≡ caller_of a
   pub timely : IsTime r.commit.id.time
-  pub origin : IsOrigin r.origin
+  pub origin : IsNodeOrigin r.origin
 
 -- the same with the values of its versions, each of at most 4,096 bytes
 pub record Storable (a : Attempt) (r : Record) (values : List (List ℕ)) : Type 0 where

@@ -1,6 +1,6 @@
 //! What a commit or an abort does at the door, and what comes of it.
 
-ghost use Rattle.std.specs.Prelude.{◌≡◌, ◌≢◌, ◌<◌, ◌≤◌, ◌⊎◌, ◌&&◌, ◌||◌, Err, IfErr, IfOk, IsErrOf, IsTrue, Ok, Some, length};
+ghost use Rattle.std.specs.Prelude.{◌≡◌, ◌≢◌, ◌<◌, ◌≤◌, ◌^◌, ◌⊎◌, ◌&&◌, ◌||◌, Err, IfErr, IfOk, IsErrOf, IsTrue, Ok, Some, length};
 ghost use Rattle.aft_commit.specs.Calls.{IsVersionAt, LooksSo, PutsSo, RecordPutsSo, ReleasesSo, Shown, Tells, fails, refused_sight};
 ghost use Rattle.aft_commit.specs.View.{Storable, StorableRecord, is_doubtful};
 ghost use Rattle.aft_commit.specs.declared.sight.Sight.TheVariants as sights;
@@ -51,6 +51,13 @@ pub(crate) fn few_keys(written: &Record)
     ensures { length written.now.commit.keys ≤ 32 }
 {
     written.commit.keys.list();
+}
+
+/// And of the incarnation that it names.
+fn small_inc(written: &Record)
+    ensures { written.now.origin.inc < 2 ^ 32 }
+{
+    let _inc = written.origin.inc;
 }
 
 /// Puts the version of one of the keys of a commit.
@@ -109,6 +116,7 @@ pub(crate) fn put_record<K: Keeper>(
     ensures store { SameStore door.old door.new }
 {
     let _time = written.commit.id.time;
+    small_inc(written);
     uuid_bytes(&written.commit.id.uuid);
     written.commit.keys.list();
     door.put_record(caller(by, attempt), written)

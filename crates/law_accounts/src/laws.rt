@@ -1,14 +1,17 @@
 //! Laws of accounts, as calls that do nothing and promise them.
 
 ghost use Rattle.aft_model.proofs.Histories.{In};
+ghost use Rattle.aft_model.specs.declared.caller.Attempt.{Attempt};
 ghost use Rattle.aft_model.specs.declared.node.NodeEntry.{NodeEntry};
 ghost use Rattle.aft_model.specs.declared.script.Command.{Command};
 ghost use Rattle.std.specs.List.{list_all};
 ghost use Rattle.std.specs.Prelude.{◌≡◌, None, Some, IsFalse, IsTrue, if◌then◌else◌, ℕ, ◌||◌, ◌++◌, ◌∷◌, [], length};
 ghost use Rattle.aft_model.specs.declared.script.Line.{Line};
 ghost use Rattle.aft_model.specs.declared.trace.Trace.{Trace};
+ghost use Rattle.aft_model.specs.Attempts.{attempt_state, uuid_of};
 ghost use Rattle.aft_model.specs.Membership.{is_up};
 ghost use Rattle.aft_model.specs.NodeSights.{is_fenced};
+ghost use Rattle.aft_model.specs.NodeState.{node_state, serves};
 ghost use Rattle.aft_lines.specs.Asked.{Asked, Ran};
 ghost use Rattle.aft_lines.specs.CausesRounds.{is_collect};
 ghost use Rattle.aft_lines.specs.CourseWords.{caller_of};
@@ -16,12 +19,16 @@ ghost use Rattle.aft_lines.specs.FinishedText.{line_of};
 ghost use Rattle.aft_lines.specs.LegalTrace.{LegalTrace, are_asks};
 ghost use Rattle.aft_lines.specs.Lines.{begins, hold_after, hold_before, lines};
 ghost use Rattle.aft_lines.specs.Makes.{makes};
+ghost use Rattle.aft_lines.specs.Progress.{Progress};
 ghost use Rattle.aft_lines.specs.RunsSoFar.{RunsSoFar, is_stopped_rightly, position_of};
 ghost use Rattle.aft_lines.specs.Turns.{turns, AtNode};
 ghost use Rattle.aft_lines.specs.Views.{line_before, view_of};
 ghost use Rattle.law_held.specs.Desk.{is_script};
 ghost use Rattle.law_held.specs.Fetching.{Fetch};
-ghost use Rattle.law_held.specs.Standing.{fetch_in, is_get};
+ghost use Rattle.law_held.specs.Standing.{fetch_in, is_get, part_of_node};
+ghost use Rattle.law_holders.specs.Rows.{is_of_attempt};
+ghost use Rattle.law_claims.specs.Doing.{attempt_at, moves};
+ghost use Rattle.law_steps.specs.Histories.{history_in};
 ghost use Rattle.law_turns.specs.Order.{give_nothing_up, moments_ascend, tie_in_one_list};
 ghost use Rattle.law_accounts.specs.Account.{Account, IsDone, MayGoOn, NoneCollects, Stand, StandsBehind, Waits};
 ghost use Rattle.law_accounts.specs.Adding.{Added, AddsAtNode, ComesAsOrdered, Follows, maker_of, numbered_in, with_added};
@@ -74,4 +81,10 @@ pub fn fetchers_have_come_up()
 /// has seen the fence of the attempt's incarnation.
 pub fn stops_are_seen()
     ensures { (asked : Asked) (ran : Ran) (stand : Line → Stand) (line : Line) (node : ℕ) (entry : NodeEntry) → Account asked ran stand → MayGoOn asked stand line → entry.by ≡ line_of line → Follows asked ran (AddsAtNode node entry) → entry.front ≡ length ran.trace.door → turns (line_of line) (with_added (AddsAtNode node entry) ran).trace ≡ turns (line_of line) ran.trace ++ AtNode node (numbered_in node 1 ran.trace.nodes) entry ∷ [] → IsTrue (is_stopped_rightly (view_of asked (with_added (AddsAtNode node entry) ran) line).seen (view_of asked (with_added (AddsAtNode node entry) ran) line).turns (position_of (view_of asked (with_added (AddsAtNode node entry) ran) line))) }
+{}
+
+/// While its node serves the attempt's incarnation, an attempt that a begin, a forget, a commit or an abort moves does what the
+/// line's position asks, and is of its UUID, though the incarnation was fenced.
+pub fn served_attempts_do_as_asked()
+    ensures { (asked : Asked) (ran : Ran) (stand : Line → Stand) (line : Line) (position : Progress) (a : Attempt) → Account asked ran stand → In line (lines asked) → IsTrue (is_of_attempt line.order) → position_of (view_of asked ran line) ≡ Some position → attempt_at position ≡ Some a → IsTrue (serves a.inc (node_state (history_in a.node 1 ran.trace.nodes))) → IsTrue (moves position a (attempt_state a (part_of_node a.node ran)) (uuid_of a (part_of_node a.node ran))) }
 {}

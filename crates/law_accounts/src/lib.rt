@@ -9,5 +9,5 @@ mod laws;
 
 pub use laws::{
     accounts_are_runs, accounts_begin, accounts_end, accounts_go_on, fetchers_have_come_up,
-    holds_follow, stops_are_seen, turns_follow,
+    holds_follow, served_attempts_do_as_asked, stops_are_seen, turns_follow,
 };

@@ -1,4 +1,3 @@
-pub mod Opens
 pub mod Positions
 pub mod Standing
 pub mod Goes

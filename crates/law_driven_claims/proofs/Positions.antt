@@ -36,7 +36,6 @@ use Rattle.aft_begin.specs.Made.{begun_turns, turn_at}
 use Rattle.aft_begin.specs.View.{asks}
 use Rattle.aft_begin.specs.Way.{Claimed, Deleted, LookedForMarker, LookedForRecord, Unclaimed, Way, claim_act, delete_act, look_act, release_turns, way_turns}
 use Rattle.law_driver.specs.Driven.{last_act, node_of}
-use Rattle.law_driven_claims.proofs.Opens.{is_claiming}
 use Rattle.aft_model.specs.declared.caller.Hold.{Hold}
 
 -- ---- an attempt that opens
@@ -232,10 +231,6 @@ module _ (aim : Aim) (node : ℕ) (uuid nodes : List ℕ) (ends : Ends) where
 pub asks_of : (aim : Aim) (uuid : List ℕ) (node : ℕ) → IsTrue (is_of_attempt (asks aim uuid node))
 asks_of Begin uuid node = refl
 asks_of Forget uuid node = refl
-
-pub asks_claims : (aim : Aim) (uuid : List ℕ) (node : ℕ) → IsTrue (is_claiming (asks aim uuid node))
-asks_claims Begin uuid node = refl
-asks_claims Forget uuid node = refl
 
 pub asks_at : (aim : Aim) (uuid : List ℕ) (node : ℕ) (hold : Hold) → node_of (asks aim uuid node) hold ≡ node
 asks_at Begin uuid node hold = refl

@@ -18,8 +18,6 @@ use Rattle.aft_model.specs.LegalDoor.{Legal}
 use Rattle.aft_model.specs.Membership.{is_up}
 use Rattle.aft_model.specs.NodeSights.{is_fenced}
 use Rattle.aft_model.specs.NodeState.{NodeState, boots, node_state, part, serves}
-use Rattle.aft_model.proofs.Incarnations.{part-at}
-use Rattle.aft_model.proofs.Services.{serving}
 use Rattle.aft_model.proofs.Sights.{bytes_eq-refl}
 use Rattle.aft_ledger.specs.Turns.{is_doing as is_doing_there}
 use Rattle.aft_ledger.specs.View.{NodeView}
@@ -39,24 +37,23 @@ use Rattle.aft_turns.specs.Trail.{Trail}
 use Rattle.law_attempts.proofs.Standing.{same_itself}
 use Rattle.law_holders.specs.Rows.{is_of_attempt}
 use Rattle.law_claims.specs.Doing.{attempt_at, has_claim_at, is_doing, moves, names_uuid}
-use Rattle.law_claims.specs.Moments.{Asking, MayCome, come_to, node_steps, or_not_begun, scene_of}
+use Rattle.law_claims.specs.Moments.{Asking, come_to, or_not_begun, scene_of}
 use Rattle.law_claims.specs.Scenes.{Keeps, Scene, doing, named}
 use Rattle.law_claims.proofs.Holds.{moved_holds}
-use Rattle.law_claims.proofs.Moments.{moments_keep}
 use Rattle.law_claims.proofs.Scenes.{doing_there, moves_it, served, the_is}
 use Rattle.law_runs.specs.Runs.{Goes, asking_of, command_in, ends_in, line_among, run_steps, without_office}
-use Rattle.law_runs.proofs.Come.{come}
 use Rattle.law_runs.proofs.InStages.{kept_behind}
 use Rattle.law_runs.proofs.LegalRuns.{so_far_goes}
 use Rattle.law_runs.proofs.Own.{come_somewhere, own_are}
 use Rattle.law_steps.proofs.Histories.{door_is}
+use Rattle.law_steps.specs.Histories.{history_in}
 use Rattle.law_held.proofs.DeskHeld.{among_itself}
 use Rattle.law_held.proofs.OwnSteps.{moved_by}
 use Rattle.law_held.proofs.Serving.{serves_up}
-use Rattle.law_held.proofs.Stand.{node_all}
 use Rattle.law_accounts.specs.Account.{Stand}
 use Rattle.law_accounts.specs.Adding.{numbered_in}
 use Rattle.law_accounts.proofs.Runs.{account_runs}
+use Rattle.law_accounts.proofs.Served.{moved_while_served, unbooted_since}
 use Rattle.law_accounts.proofs.StopsSeen.{same_history}
 use Rattle.law_driver.specs.Driven.{Driven, IsNode, last_act, node_of}
 use Rattle.aft_begin.specs.declared.aim.Aim.{Aim}
@@ -64,8 +61,7 @@ use Rattle.aft_begin.specs.Made.{HasCome, begun_turns}
 use Rattle.aft_begin.specs.View.{ClaimView, asks}
 use Rattle.aft_begin.specs.Way.{Unclaimed, Way}
 use Rattle.law_driven_claims.specs.Claims.{IsClaimOf}
-use Rattle.law_driven_claims.proofs.Opens.{Opens, is_claiming, opens_at_first, steps_open}
-use Rattle.law_driven_claims.proofs.Positions.{asks_at, asks_claims, asks_of, claimed_holds, come_last, come_moves, one_uuid, opens_there, unclaimed_free}
+use Rattle.law_driven_claims.proofs.Positions.{asks_at, asks_of, claimed_holds, come_last, come_moves, one_uuid, opens_there, unclaimed_free}
 
 module _ (aim : Aim) (asked : Asked) (ran : Ran) (stand : Line → Stand) (line : Line) (hold : Hold) (trail : Trail) (claim : ClaimView) (driven : Driven asked ran stand line hold trail) (its : IsClaimOf aim line claim) where
   goes : Goes asked ran
@@ -101,17 +97,8 @@ module _ (aim : Aim) (asked : Asked) (ran : Ran) (stand : Line → Stand) (line 
   keeps_last : Keeps last
   keeps_last = (kept_behind asked ran goes steps [] at_end).0
 
-  opens_last : Opens asking last
-  opens_last = steps_open asking asked.settings.cache [] steps [] (subst (MayCome asking asked.settings.cache []) at_end (come asked ran goes)) (moments_keep asking asked.settings.cache [] [] tt) (opens_at_first asking)
-
   door_last : last.door ≡ ran.trace.door
   door_last = door_is (without_office ran.trace)
-
-  asks_so : asking.command by ≡ Some line.order
-  asks_so = ap command_in found
-
-  claims_so : IsTrue (is_claiming line.order)
-  claims_so = subst (λ (c : Command). IsTrue (is_claiming c)) (sym its.order) (asks_claims aim claim.uuid claim.node)
 
   -- where it has come
   pub position : (q : Progress) × (position_of (view_of asked ran line) ≡ Some q)
@@ -136,20 +123,17 @@ module _ (aim : Aim) (asked : Asked) (ran : Ran) (stand : Line → Stand) (line 
     moved : IsTrue (is_doing here IsOpening)
     moved = (moves_it here a IsOpening claim.uuid still).1
 
+    at_here : attempt_at here ≡ Some a
+    at_here = the_is a (attempt_at here) (moves_it here a IsOpening claim.uuid still).0
+
     mine : attempt_at (last.at by) ≡ Some a
-    mine = ap attempt_at at_last ∙ the_is a (attempt_at here) (moves_it here a IsOpening claim.uuid still).0
+    mine = ap attempt_at at_last ∙ at_here
 
     -- what moves it as its position asks opens, and is of its UUID
-    opens_so : (state : AttemptState) (uuid : List ℕ) → IsTrue (is_doing (last.at by) state) → IsTrue (names_uuid (last.at by) uuid) → IsTrue (is_opening state) × (uuid ≡ claim.uuid)
-    opens_so state uuid does names = (
-      opens_there here state moved (subst (λ (p : Progress). IsTrue (is_doing p state)) at_last does),
-      one_uuid here uuid claim.uuid moved (subst (λ (p : Progress). IsTrue (names_uuid p uuid)) at_last names) (moves_it here a IsOpening claim.uuid still).2,
-    )
+    opens_so : (state : AttemptState) (uuid : List ℕ) → IsTrue (is_doing here state) → IsTrue (names_uuid here uuid) → IsTrue (is_opening state) × (uuid ≡ claim.uuid)
+    opens_so state uuid does names = (opens_there here state moved does, one_uuid here uuid claim.uuid moved names (moves_it here a IsOpening claim.uuid still).2)
 
     -- ---- at the door
-
-    abbrev who_door : Bool
-    who_door = is_fenced (caller_of a) ran.trace.door
 
     -- unless its incarnation was fenced, that is up, and holds the UUID just where the line has claimed it and not let it go
     abbrev IsUpSo : Type 0
@@ -165,7 +149,9 @@ module _ (aim : Aim) (asked : Asked) (ran : Ran) (stand : Line → Stand) (line 
             | inr gone ↦ inl (subst (λ (d : List DoorEntry). IsTrue (is_fenced (caller_of a) d)) door_last gone)
             | inl up ↦
                 let held = moved_holds last (subst Legal (sym door_last) goes.door) keeps_last by a mine up in
-                let same : named last a ≡ claim.uuid = (opens_so (doing last a) (named last a) moving.1 moving.2).1 in
+                let does = subst (λ (p : Progress). IsTrue (is_doing p (doing last a))) at_last moving.1 in
+                let names = subst (λ (p : Progress). IsTrue (names_uuid p (named last a))) at_last moving.2 in
+                let same : named last a ≡ claim.uuid = (opens_so (doing last a) (named last a) does names).1 in
                 inr (
                   subst (λ (d : List DoorEntry). IsTrue (is_up (caller_of a) d)) door_last up,
                   ap (holds (caller_of a) claim.uuid) (sym door_last) ∙ (ap (λ (u : List ℕ). holds (caller_of a) u last.door) (sym same) ∙ (held.1 ∙ ap has_claim_at at_last)),
@@ -185,10 +171,8 @@ module _ (aim : Aim) (asked : Asked) (ran : Ran) (stand : Line → Stand) (line 
       abbrev history : List NodeEntry
       history = node.history
 
-      history_last : last.node a.node ≡ history
-      history_last =
-          ap (λ (n : ℕ). node_steps n steps) (its_turns.admits.place ∙ own)
-          ∙ (node_all asked ran goes driven.account.differ node.number ∙ (sym (same_history node.number 1 ran.trace.nodes) ∙ sym is_node.history))
+      history_is : history_in a.node 1 ran.trace.nodes ≡ history
+      history_is = ap (λ (n : ℕ). history_in n 1 ran.trace.nodes) (its_turns.admits.place ∙ own) ∙ (sym (same_history node.number 1 ran.trace.nodes) ∙ sym is_node.history)
 
       pub closes_so : MayClose (opens_begin a) claim.by history
       closes_so =
@@ -206,15 +190,14 @@ module _ (aim : Aim) (asked : Asked) (ran : Ran) (stand : Line → Stand) (line 
       -- the node has left its incarnation, or it opens, and is of the UUID
       pub ends_so : IsTrue (has_left a.inc (node_state history)) ⊎ (IsTrue (is_doing_there is_opening a history) × IsTrue (bytes_eq (uuid_of a (part history)) claim.uuid))
       ends_so = elim (cases_Bool (serves a.inc (node_state history))) [
-        | inr gone ↦ inl (left_so gone (subst (λ (h : List NodeEntry). IsFalse (boots a.inc (node_state h))) history_last (opens_last.known by a mine).unbooted))
+        | inr gone ↦ inl (left_so gone (subst (λ (h : List NodeEntry). IsFalse (boots a.inc (node_state h))) history_is (unbooted_since asked ran stand driven.account line driven.may.among of here a position.1 at_here)))
         | inl serve ↦
-            let at = serving a.inc (node_state history) serve in
-            let so = moves_it (last.at by) a (attempt_state a at.0.part) (uuid_of a at.0.part) (opens_last.moved by a line.order asks_so claims_so mine at.0 (ap node_state history_last ∙ at.1) (sym at.2)) in
-            let its_part : part history ≡ at.0.part = part-at history at.0 at.1 in
-            let opening = opens_so (attempt_state a at.0.part) (uuid_of a at.0.part) so.1 so.2 in
+            let there = moved_while_served asked ran stand driven.account line driven.may.among of here a position.1 at_here (subst (λ (h : List NodeEntry). IsTrue (serves a.inc (node_state h))) (sym history_is) serve) in
+            let so = moves_it here a (attempt_state a (part history)) (uuid_of a (part history)) (subst (λ (h : List NodeEntry). IsTrue (moves here a (attempt_state a (part h)) (uuid_of a (part h)))) history_is there) in
+            let opening = opens_so (attempt_state a (part history)) (uuid_of a (part history)) so.1 so.2 in
             inr (
-              and_from (serves a.inc (node_state history)) (is_opening (attempt_state a (part history))) serve (subst (λ (p : List NodeEntry). IsTrue (is_opening (attempt_state a p))) (sym its_part) opening.0),
-              subst (λ (u : List ℕ). IsTrue (bytes_eq u claim.uuid)) (sym (ap (uuid_of a) its_part ∙ opening.1)) (bytes_eq-refl claim.uuid),
+              and_from (serves a.inc (node_state history)) (is_opening (attempt_state a (part history))) serve opening.0,
+              subst (λ (u : List ℕ). IsTrue (bytes_eq u claim.uuid)) (sym opening.1) (bytes_eq-refl claim.uuid),
             )
       ]
         where

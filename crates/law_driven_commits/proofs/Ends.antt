@@ -52,7 +52,7 @@ use Rattle.law_driver.specs.Driven.{Driven, IsNode}
 use Rattle.law_driven_commits.specs.Finishes.{IsFinishOf, MayEndAtNode}
 use Rattle.law_driven_commits.proofs.Calls.{its_kind, stands_at}
 use Rattle.law_driven_commits.proofs.Closes.{number_is, some_commit}
-use Rattle.law_driven_commits.proofs.Served.{moved_while_served, unbooted_since}
+use Rattle.law_accounts.proofs.Served.{moved_while_served, unbooted_since}
 use Rattle.law_driven_commits.proofs.Stays.{stays_fixed, turn_stands}
 
 storing_commits : (c : Commit) (state : AttemptState) → IsTrue (is_storing c state) → IsTrue (is_committing state)

@@ -1,11 +1,11 @@
 pub mod Calls
 pub mod LastActs
 pub mod Closes
-pub mod Moves
-pub mod Served
 pub mod Stays
 pub mod Ends
 pub mod Knew
 pub mod Values
 pub mod Puts
 pub mod Times
+pub mod ReadIds
+pub mod Origins

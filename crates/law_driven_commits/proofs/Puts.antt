@@ -1,5 +1,5 @@
--- A commit that a driver runs knows of its next put what it must: its attempt's incarnation knew before the line that the UUID was unused.
-use Rattle.std.proofs.Common.{◌≡◌, ◌≤◌, ℕ, Bool, true, false, List, [], ◌∷◌, ◌++◌, refl, sym, ap, subst, ◌∙◌, inl, take, append_assoc, arith, length}
+-- A commit that a driver runs knows of its next put what it must, since its attempt's incarnation knew before the line that the UUID was unused; and what it is to store keeps the limits.
+use Rattle.std.proofs.Common.{◌≡◌, ◌<◌, ◌≤◌, ◌+◌, ℕ, Bool, true, false, List, [], ◌∷◌, ◌++◌, refl, sym, ap, subst, ◌∙◌, inl, take, append_assoc, arith, length}
 use Rattle.std.specs.Prelude.{◌≢◌, IsFalse, IsTrue, None, Option, Some, filter, if◌then◌else◌, is_some, map, nat_le}
 use Rattle.std.specs.List.{list_all}
 use Rattle.std.proofs.lemmas.List.Elements.{filter-append}
@@ -15,7 +15,7 @@ use Rattle.aft_model.specs.declared.node.NodeAct.{NodeAct}
 use Rattle.aft_model.specs.declared.node.NodeAct.TheVariants as acts
 use Rattle.aft_model.specs.declared.node.NodeEntry.{NodeEntry}
 use Rattle.aft_model.specs.declared.script.Line.{Line}
-use Rattle.aft_model.specs.Attempts.{AttemptState, IsCommitting, IsInDoubt, attempt_state, fixed_commit, is_gone, is_opening, uuid_of, Write, buffer}
+use Rattle.aft_model.specs.Attempts.{AttemptState, IsCommitting, IsInDoubt, attempt_state, fixed_commit, is_gone, is_opening, reads, uuid_of, Write, buffer}
 use Rattle.aft_model.specs.DoorKnowledge.{knows_unused}
 use Rattle.aft_model.specs.History.{first_of}
 use Rattle.aft_model.specs.LegalNode.{LegalNode, front, is_legal_node, may_follow_at}
@@ -39,7 +39,7 @@ use Rattle.aft_lines.specs.Turns.{AtDoor, AtNode, AtOffice, Turn, front_in, turn
 use Rattle.aft_commit.specs.Asks.{may_put_at}
 use Rattle.aft_commit.specs.Made.{HasCome, Made, command_of, is_own_silent, made_at}
 use Rattle.aft_commit.specs.Told.{IsToStore, entries_by}
-use Rattle.aft_commit.specs.View.{FinishView}
+use Rattle.aft_commit.specs.View.{FinishView, IsNodeOrigin, IsStorable, is_storable_at}
 use Rattle.aft_commit.specs.declared.stage.Stage.{Stage}
 use Rattle.aft_commit.specs.declared.stage.Stage.TheVariants as stages
 use Rattle.aft_commit.proofs.Knowing.{knows_so}
@@ -47,19 +47,21 @@ use Rattle.aft_turns.specs.Trail.{Trail}
 use Rattle.law_attempts.specs.Acts.{times_begun}
 use Rattle.law_attempts.proofs.Attempts.{fixed_uuid, has_begun}
 use Rattle.law_runs.specs.Runs.{run_steps}
-use Rattle.law_runs.proofs.Come.{door_parts, seen_is}
-use Rattle.law_runs.proofs.Nodes.{nodes_rules}
+use Rattle.law_runs.proofs.Come.{door_parts, most_nodes, seen_is}
+use Rattle.law_runs.proofs.Nodes.{nodes_rules, within}
 use Rattle.law_runs.proofs.Own.{own_are}
 use Rattle.law_steps.specs.Histories.{history_in}
 use Rattle.law_accounts.specs.Account.{Stand}
 use Rattle.law_accounts.proofs.StopsSeen.{there_serves}
 use Rattle.law_driver.specs.Driven.{Driven, last_act}
-use Rattle.law_driven_commits.specs.Finishes.{IsFinishOf, MayPutAtDoor, PutsAreShort, StoresItsOwn, StoresShortValues, stores_own_at, stores_short_at}
+use Rattle.law_driven_commits.specs.Finishes.{IsFinishOf, MayPutAtDoor, PutsAreShort}
 use Rattle.law_driven_commits.proofs.Calls.{goes, its_kind}
 use Rattle.law_driven_commits.proofs.Ends.{home_turn}
 use Rattle.law_driven_commits.proofs.Knew.{all_knew}
 use Rattle.law_driven_commits.proofs.LastActs.{FixesAt, LastAt, line_last}
-use Rattle.law_driven_commits.proofs.Stays.{fixed_there, turn_numbered, turn_stands}
+use Rattle.law_driven_commits.proofs.Origins.{from_one, read_limits}
+use Rattle.law_driven_commits.proofs.ReadIds.{are_reads, are_uuids}
+use Rattle.law_driven_commits.proofs.Stays.{fixed_there, turn_stands}
 use Rattle.law_driven_commits.proofs.Times.{timely}
 use Rattle.law_driven_commits.proofs.Values.{shorts}
 
@@ -196,11 +198,31 @@ module _ (asked : Asked) (ran : Ran) (stand : Line → Stand) (line : Line) (hol
 
     -- ---- what is stored
 
+    bounds : (1 ≤ node) × (node < 1 + length ran.trace.nodes)
+    bounds = within node 1 ran.trace.nodes found entry on.0 on.1
+
     home_node : a.node ≢ 0
     home_node none =
-        let least : 1 ≤ node = turn_numbered by node found entry ran.trace among in
+        let least : 1 ≤ node = bounds.0 in
         let zero : node ≡ 0 = home ∙ none in
         omega arith
+
+    few_nodes : a.node ≤ 8
+    few_nodes =
+        let less : node < 1 + length ran.trace.nodes = bounds.1 in
+        let most : length ran.trace.nodes ≤ 8 = most_nodes asked ran (goes asked ran stand line hold trail finish driven of) in
+        let same : node ≡ a.node = home in
+        omega arith
+
+    its_origin : IsNodeOrigin (record_by a (part found) c).origin
+    its_origin =
+        let limits = read_limits node asked.settings.cache ran.trace.door found entry (record { legal = legal; seen = seen }) a c fixed driven.account.bytes in
+        record {
+          most = few_nodes;
+          least = from_one node asked.settings.cache a.inc behind legal serve;
+          reads = are_reads (reads a (part found)) limits;
+          uuids = are_uuids (reads a (part found)) limits;
+        }
 
     in_time : IsTrue (is_time c.id.time)
     in_time = timely node asked.settings.cache behind legal a c fixed
@@ -235,42 +257,29 @@ module _ (asked : Asked) (ran : Ran) (stand : Line → Stand) (line : Line) (hol
   pub may_put_so : Made clock finish trail → MayPutAtDoor finish ran.trace.door
   may_put_so made next = by_stage finish.stage made
 
-  stores_own : (stage : Stage) → made_at clock finish.by finish.hold finish.aborts stage trail → stores_own_at stage
-  stores_own (stages.Stores a r values count) made =
+  storable : PutsAreShort asked → (stage : Stage) → made_at clock finish.by finish.hold finish.aborts stage trail → is_storable_at stage
+  storable puts (stages.Stores a r values count) made =
       let come = made.0.4 in
       let store = made.1.0 in
+      let written = kept a _ r.commit come store in
       record {
-        node = home_node a _ r.commit come store;
-        own = ap (λ (x : Record). incarnation x.origin.node x.origin.inc) (kept a _ r.commit come store).1.0;
-        timely = in_time a _ r.commit come store;
+        written_fits = record {
+          node = home_node a _ r.commit come store;
+          own = ap (λ (x : Record). incarnation x.origin.node x.origin.inc) written.1.0;
+          timely = in_time a _ r.commit come store;
+          origin = subst (λ (x : Record). IsNodeOrigin x.origin) (sym written.1.0) (its_origin a _ r.commit come store);
+        };
+        short = are_short a _ r.commit come store puts values (made.0.2 ∙ ap (map (λ (write : Write). write.value)) written.1.1);
       }
-  stores_own stages.Begins made = tt
-  stores_own (stages.Settles a r values) made = tt
-  stores_own (stages.Failed a r) made = tt
-  stores_own (stages.Recorded a r) made = tt
-  stores_own (stages.Releases a uuid outcome) made = tt
-  stores_own (stages.Doubts a reply) made = tt
-  stores_own (stages.Ends a uuid outcome) made = tt
-  stores_own (stages.ShutOut a) made = tt
-  stores_own stages.Ended made = tt
+  storable puts stages.Begins made = tt
+  storable puts (stages.Settles a r values) made = tt
+  storable puts (stages.Failed a r) made = tt
+  storable puts (stages.Recorded a r) made = tt
+  storable puts (stages.Releases a uuid outcome) made = tt
+  storable puts (stages.Doubts a reply) made = tt
+  storable puts (stages.Ends a uuid outcome) made = tt
+  storable puts (stages.ShutOut a) made = tt
+  storable puts stages.Ended made = tt
 
-  pub stores_its_own : Made clock finish trail → StoresItsOwn finish
-  stores_its_own made = stores_own finish.stage made
-
-  stores_short : PutsAreShort asked → (stage : Stage) → made_at clock finish.by finish.hold finish.aborts stage trail → stores_short_at stage
-  stores_short puts (stages.Stores a r values count) made =
-      let come = made.0.4 in
-      let store = made.1.0 in
-      are_short a _ r.commit come store puts values (made.0.2 ∙ ap (map (λ (write : Write). write.value)) (kept a _ r.commit come store).1.1)
-  stores_short puts stages.Begins made = tt
-  stores_short puts (stages.Settles a r values) made = tt
-  stores_short puts (stages.Failed a r) made = tt
-  stores_short puts (stages.Recorded a r) made = tt
-  stores_short puts (stages.Releases a uuid outcome) made = tt
-  stores_short puts (stages.Doubts a reply) made = tt
-  stores_short puts (stages.Ends a uuid outcome) made = tt
-  stores_short puts (stages.ShutOut a) made = tt
-  stores_short puts stages.Ended made = tt
-
-  pub stores_short_values : PutsAreShort asked → Made clock finish trail → StoresShortValues finish
-  stores_short_values puts made = stores_short puts finish.stage made
+  pub stores_within : PutsAreShort asked → Made clock finish trail → IsStorable finish
+  stores_within puts made = storable puts finish.stage made

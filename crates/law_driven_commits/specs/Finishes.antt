@@ -1,26 +1,19 @@
 -- A commit or an abort that is a line's machine, and what it asks of its next turn.
-use Rattle.std.specs.Prelude.{Bool, IsTrue, List, length, nat_le, true, ◌≡◌, ◌≢◌}
+use Rattle.std.specs.Prelude.{Bool, IsTrue, List, length, nat_le, true, ◌≡◌}
 use Rattle.std.specs.List.{list_all}
-use Rattle.aft_records.specs.declared.stored.Record.{Record}
-use Rattle.aft_records.specs.Limits.{IsTime}
-use Rattle.aft_model.specs.declared.caller.Attempt.{Attempt}
 use Rattle.aft_model.specs.declared.caller.Hold.{Hold}
 use Rattle.aft_model.specs.declared.door.DoorEntry.{DoorEntry}
 use Rattle.aft_model.specs.declared.script.Command.{Command}
 use Rattle.aft_model.specs.declared.script.Command.TheVariants as commands
 use Rattle.aft_model.specs.declared.script.Line.{Line}
 use Rattle.aft_model.specs.DoorKnowledge.{is_open}
-use Rattle.aft_model.specs.Membership.{incarnation}
 use Rattle.aft_ledger.specs.View.{NodeView}
-use Rattle.aft_lines.specs.CourseWords.{caller_of}
 use Rattle.aft_lines.specs.Asked.{Asked}
 use Rattle.aft_lines.specs.FinishedText.{line_of}
 use Rattle.aft_lines.specs.Lines.{lines}
 use Rattle.aft_commit.specs.Asks.{MayCall, MayEnd, may_close, may_put}
 use Rattle.aft_commit.specs.Made.{command_of}
 use Rattle.aft_commit.specs.View.{FinishView, next_of}
-use Rattle.aft_commit.specs.declared.stage.Stage.{Stage}
-use Rattle.aft_commit.specs.declared.stage.Stage.TheVariants.{Stores}
 use Rattle.aft_turns.specs.declared.turn.Where.TheVariants as places
 
 -- a commit or an abort is the machine of a line whose client holds this: it is of that line, which asks for it
@@ -45,32 +38,10 @@ MayCallAtDoor finish door = next_of finish ≡ places.Door → MayCall finish do
 abbrev pub MayPutAtDoor : FinishView → List DoorEntry → Type 0
 MayPutAtDoor finish door = next_of finish ≡ places.Door → may_put finish door
 
--- a record that is put for an attempt names its incarnation, which is a node's, as its origin, and its time is in range
-pub record IsOwnRecord (a : Attempt) (r : Record) : Type 0 where
-  pub node : a.node ≢ 0
-  pub own : incarnation r.origin.node r.origin.inc ≡ caller_of a
-  pub timely : IsTime r.commit.id.time
-
--- so is what a commit stores
-abbrev pub stores_own_at : Stage → Type 0
-stores_own_at (Stores a r values count) = IsOwnRecord a r
-stores_own_at stage = Unit {0}
-
-abbrev pub StoresItsOwn : FinishView → Type 0
-StoresItsOwn finish = stores_own_at finish.stage
-
--- whether a command puts no value of more than 4,096 bytes; and none of a script does
+-- whether a command puts no value of more than 4,096 bytes; and no line of a script does
 abbrev pub puts_short : Command → Bool
 puts_short (commands.Put key value) = nat_le (length value) 4096
 puts_short command = true
 
 abbrev pub PutsAreShort : Asked → Type 0
 PutsAreShort asked = IsTrue (list_all (λ line. puts_short line.order) (lines asked))
-
--- and none that a commit stores has more
-abbrev pub stores_short_at : Stage → Type 0
-stores_short_at (Stores a r values count) = IsTrue (list_all (λ value. nat_le (length value) 4096) values)
-stores_short_at stage = Unit {0}
-
-abbrev pub StoresShortValues : FinishView → Type 0
-StoresShortValues finish = stores_short_at finish.stage

@@ -6,7 +6,4 @@
 
 mod laws;
 
-pub use laws::{
-    commits_store_short_values, commits_store_their_own, finishes_may_go_on,
-    served_attempts_do_as_asked,
-};
+pub use laws::{commits_may_store, finishes_may_go_on};

@@ -40,9 +40,6 @@ use Rattle.law_driven_gets.specs.Gets.{IsGetOf, MayGoAtDoor, MayGoAtNode}
 use Rattle.law_driven_gets.proofs.Open.{may_end}
 use Rattle.law_driven_gets.proofs.Picked.{AsksThen, asks_then, is_at_fetch, its_fetch, last_picked, pick_act, pick_opens}
 
-number_is : (one other : ℕ) → places.Node one ≡ places.Node other → one ≡ other
-number_is one other is = cc
-
 module _ (asked : Asked) (ran : Ran) (stand : Line → Stand) (line : Line) (hold : Hold) (trail : Trail) (read : ReadView) (driven : Driven asked ran stand line hold trail) (of : IsGetOf line hold read) where
   module _ (a : Attempt) (id : TxnId) (first : Turn) (more : List Turn) (picked : HasPicked asked.settings.cache read.by read.hold read.key a id first) (are : trail.turns ≡ first ∷ more) (asks : AsksThen a read.key id more) where
     at_fetch : fetch_in (position_of (view_of asked ran line)) ≡ Some (its_fetch asked.settings.cache read.by read.hold read.key a id first more picked)
@@ -94,7 +91,7 @@ module _ (asked : Asked) (ran : Ran) (stand : Line → Stand) (line : Line) (hol
 
     by_node : (stage : Stage) → made_at asked.settings.cache read.by read.hold read.key stage trail → next_at read.hold.node stage ≡ places.Node node.number → may_close_at read.by stage node.history × may_end_at stage node.history
     by_node (Comes a key id got place) (same, came) next =
-        let here = number_is read.hold.node node.number next in
+        let here : read.hold.node ≡ node.number = cc in
         (closes a key id got place same came here, ends a key id got place same came here)
     by_node (Begins key) made next = (tt, tt)
     by_node (Fetches a key id) made next = (tt, tt)

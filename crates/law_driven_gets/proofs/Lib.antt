@@ -1,4 +1,3 @@
-pub mod Booted
 pub mod Picked
 pub mod Open
 pub mod Goes

@@ -32,13 +32,13 @@ use Rattle.law_runs.proofs.Retires.{split_at}
 use Rattle.law_steps.specs.Histories.{history_in}
 use Rattle.law_held.specs.Fetching.{Fetch, KeepsFetches, fetch_of, fetching}
 use Rattle.law_held.specs.Standing.{fetch_in}
+use Rattle.law_held.proofs.BootsOnce.{boots_once}
 use Rattle.law_held.proofs.Fetches.{open_now}
 use Rattle.law_held.proofs.OpenFetches.{fetches_behind}
 use Rattle.law_held.proofs.Stand.{node_all}
 use Rattle.law_accounts.specs.Account.{Account, Stand}
 use Rattle.law_accounts.proofs.ComingUp.{fetch_there, picks_acts}
 use Rattle.law_accounts.proofs.Runs.{account_runs}
-use Rattle.law_driven_gets.proofs.Booted.{boots_once}
 
 -- who runs is there
 runs_there : (state : AttemptState) → IsTrue (is_running state) → IsTrue (not (is_gone state))

@@ -39,22 +39,30 @@ module _ (ends : Ends) (home : ℕ) (nodes : List ℕ) where
   passed true q is = refl
   passed false q is = absurd (let e : None ≡ Some q = is in cc)
 
-  booted : (who : Incarnation) (whole : Bool) (at : ℕ) (before : List NodeEntry) (entry : NodeEntry) (q : Progress) → if_so (eqb who.node at && closes ends who.inc (ends_boot who.inc whole) (node_state before) entry) IsOver ≡ Some q → IsTrue (ends_boot_of who at entry.act)
+  over : (b : Bool) (q : Progress) → if_so b IsOver ≡ Some q → IsTrue (has_ended q)
+  over true q is = (let same : IsOver ≡ q = (let both : Some IsOver ≡ Some q = is in cc) in subst (λ (r : Progress). IsTrue (has_ended r)) same refl)
+  over false q is = absurd (let e : None ≡ Some q = is in cc)
+
+  -- a turn at a node, where the boot of an incarnation is to end: if it ends one it is that, and it is the last
+  abbrev EndsBoot : Incarnation → ℕ → NodeEntry → Progress → Type 0
+  EndsBoot who at entry q = IsTrue (ends_boot_of who at entry.act) × IsTrue (has_ended q)
+
+  booted : (who : Incarnation) (whole : Bool) (at : ℕ) (before : List NodeEntry) (entry : NodeEntry) (q : Progress) → if_so (eqb who.node at && closes ends who.inc (ends_boot who.inc whole) (node_state before) entry) IsOver ≡ Some q → EndsBoot who at entry q
   booted who whole at before entry q is =
-      let tests = and_parts (eqb who.node at) (closes ends who.inc (ends_boot who.inc whole) (node_state before) entry) (passed (eqb who.node at && closes ends who.inc (ends_boot who.inc whole) (node_state before) entry) q is) in
-      closing who whole at before entry entry.act refl tests.0 tests.1
+      let test : Bool = eqb who.node at && closes ends who.inc (ends_boot who.inc whole) (node_state before) entry in
+      let tests = and_parts (eqb who.node at) (closes ends who.inc (ends_boot who.inc whole) (node_state before) entry) (passed test q is) in
+      (closing who whole at before entry entry.act refl tests.0 tests.1, over test q is)
 
   same_who_at : (x y : Incarnation) → Some x ≡ Some y → x ≡ y
   same_who_at x y is = cc
 
-  -- a turn at a node of a start that is to end the boot of an incarnation, if it ends one
-  one_ends : (who : Incarnation) (p q : Progress) (at : ℕ) (before : List NodeEntry) (entry : NodeEntry) → starts_at p ≡ Some who → advance (commands.Start home) nodes ends p (AtNode at before entry) ≡ Some q → IsTrue (ends_boot_of who at entry.act)
-  one_ends who (MustComeUp one) q at before entry is leads = subst (λ (w : Incarnation). IsTrue (ends_boot_of w at entry.act)) (same_who_at one who is) (booted one false at before entry q leads)
-  one_ends who (BootScan scan) q at before entry is leads = subst (λ (w : Incarnation). IsTrue (ends_boot_of w at entry.act)) (same_who_at scan.who who is) (booted scan.who false at before entry q leads)
-  one_ends who (BootScanned one whole) q at before entry is leads = subst (λ (w : Incarnation). IsTrue (ends_boot_of w at entry.act)) (same_who_at one who is) (booted one whole at before entry q leads)
+  pub one_ends : (who : Incarnation) (p q : Progress) (at : ℕ) (before : List NodeEntry) (entry : NodeEntry) → starts_at p ≡ Some who → advance (commands.Start home) nodes ends p (AtNode at before entry) ≡ Some q → EndsBoot who at entry q
+  one_ends who (MustComeUp one) q at before entry is leads = subst (λ (w : Incarnation). EndsBoot w at entry q) (same_who_at one who is) (booted one false at before entry q leads)
+  one_ends who (BootScan scan) q at before entry is leads = subst (λ (w : Incarnation). EndsBoot w at entry q) (same_who_at scan.who who is) (booted scan.who false at before entry q leads)
+  one_ends who (BootScanned one whole) q at before entry is leads = subst (λ (w : Incarnation). EndsBoot w at entry q) (same_who_at one who is) (booted one whole at before entry q leads)
   one_ends who p q at before entry is leads = absurd (let e : None ≡ Some who = is in cc)
 
-  none_behind : (p q : Progress) (turn : Turn) → IsTrue (has_ended p) → advance (commands.Start home) nodes ends p turn ≡ Some q → ⊥
+  pub none_behind : (p q : Progress) (turn : Turn) → IsTrue (has_ended p) → advance (commands.Start home) nodes ends p turn ≡ Some q → ⊥
   none_behind IsOver q turn over leads = (let e : None ≡ Some q = leads in cc)
   none_behind (Stopped a) q turn over leads = (let e : None ≡ Some q = leads in cc)
   none_behind p q turn over leads = false≢true over
@@ -69,6 +77,6 @@ module _ (ends : Ends) (home : ℕ) (nodes : List ℕ) where
         | inr over ↦ absurd (none_behind was.0 p (AtNode at before entry) over.1 was.2)
         | inl boot ↦ elim boot.3 [
           | inr over ↦ absurd (none_behind was.0 p (AtNode at before entry) over was.2)
-          | inl starts ↦ (boot.0, boot.1, one_ends (incarnation number boot.0) was.0 p at before entry starts was.2)
+          | inl starts ↦ (boot.0, boot.1, (one_ends (incarnation number boot.0) was.0 p at before entry starts was.2).0)
         ]
       ]

@@ -1,7 +1,7 @@
 -- A line whose last entry at a node began a boot, where each boot is ended by the line that began it.
-use Rattle.std.proofs.Common.{◌≡◌, ℕ, suc, ◌≤◌, Bool, true, false, ◌&&◌, ◌||◌, not, List, [], ◌∷◌, ◌++◌, refl, sym, ap, subst, ◌∙◌, ◌⊎◌, inl, inr, eqb, arith, append-nil, append_assoc}
+use Rattle.std.proofs.Common.{◌≡◌, ℕ, ◌≤◌, Bool, true, false, ◌&&◌, ◌||◌, not, List, [], ◌∷◌, ◌++◌, refl, sym, ap, subst, ◌∙◌, ◌⊎◌, inl, inr, eqb, arith, append-nil, append_assoc}
 use Rattle.std.specs.Prelude.{IsFalse, IsTrue, Option, nat_le}
-use Rattle.std.proofs.lemmas.Bool.{and_parts, cases_Bool, eq-eqb, eqb-true, false_from_ne_true, false≢true, or_left, or_right, true≢false}
+use Rattle.std.proofs.lemmas.Bool.{and_parts, cases_Bool, eq-eqb, eqb-true, false_from_ne_true, false≢true, not-true, or_left, or_parts, or_right, true≢false}
 use Rattle.aft_records.specs.declared.stored.Commit.{Commit}
 use Rattle.aft_model.specs.declared.caller.By.{By}
 use Rattle.aft_model.specs.declared.node.NodeAct.{NodeAct}
@@ -9,16 +9,16 @@ use Rattle.aft_model.specs.declared.node.NodeAct.TheVariants as acts
 use Rattle.aft_model.specs.declared.node.NodeEntry.{NodeEntry}
 use Rattle.aft_model.specs.LegalNode.{LegalNode, front, may_be_done, may_follow_at}
 use Rattle.aft_model.specs.NodeRules.{may_begin_boot}
-use Rattle.aft_model.specs.NodeState.{IsBooting, IsDown, IsServing, NodeState, boots, goes_on, newest, newest_after, node_state, state_after, stopped}
+use Rattle.aft_model.specs.NodeState.{IsBooting, IsDown, IsServing, NodeState, boots, goes_on, newest, newest_after, node_state, serves, state_after, stopped}
 use Rattle.aft_model.specs.ScanRun.{same_line}
 use Rattle.aft_model.proofs.Histories.{each_after_split}
 use Rattle.aft_model.proofs.Services.{newest-snoc, node_state-snoc}
 use Rattle.aft_lines.specs.LineView.{has_left}
 use Rattle.aft_node.specs.Closing.{act_passes, last_own, opens_boot}
 use Rattle.law_claims.proofs.Scenes.{same_by}
+use Rattle.law_held.proofs.BootsOnce.{begins_other, newer}
 use Rattle.law_driver.proofs.Closing.{last_with_other, last_with_own}
 use Rattle.law_driven_starts.specs.Starts.{EndsOwnBoots, ends_own_at, ends_own_boot}
-use Rattle.law_driven_starts.proofs.Newest.{newer}
 
 -- a line's last entry began the boot of an incarnation
 abbrev Opens : ℕ → Option NodeAct → Type 0
@@ -44,25 +44,8 @@ left_booting inc j running differs = ap not differs
 
 -- a boot begins of no incarnation that runs or was left
 not_again : (inc j n : ℕ) (state : NodeState) → inc ≤ n → RunsOrLeft inc state → IsTrue (may_begin_boot j n state) → IsFalse (eqb inc j)
-not_again inc j n IsDown low stands begins = false_from_ne_true (eqb inc j) (λ same. (let i : inc ≡ j = eqb-true inc j same in let next : j ≡ suc n = eqb-true j (suc n) begins in absurd (omega arith)))
-not_again inc j n (IsBooting b running) low (inl runs) begins = absurd (not_both running (and_parts (eqb j b) (not running) begins).1 (still running runs))
-  where
-    running_in : NodeState → Bool
-    running_in (IsBooting i r) = r
-    running_in state = false
-
-    still : (r : Bool) → IsBooting b r ≡ IsBooting inc true → IsTrue r
-    still r is = ap running_in is
-
-    not_both : (r : Bool) → IsTrue (not r) → IsTrue r → ⊥
-    not_both true stopped_now runs_now = false≢true stopped_now
-    not_both false stopped_now runs_now = false≢true runs_now
-not_again inc j n (IsBooting b running) low (inr left) begins =
-    false_from_ne_true (eqb inc j) (λ same.
-    (let i : inc ≡ j = eqb-true inc j same in
-    let at : j ≡ b = eqb-true j b (and_parts (eqb j b) (not running) begins).0 in
-    false≢true (ap not (sym (eq-eqb inc b (i ∙ at))) ∙ left)))
-not_again inc j n (IsServing s) low stands begins = absurd (false≢true begins)
+not_again inc j n state low (inl runs) begins = absurd (false≢true (and_parts (eqb j inc) false (subst (λ (s : NodeState). IsTrue (may_begin_boot j n s)) runs begins)).1)
+not_again inc j n state low (inr left) begins = begins_other inc n j state low (or_parts (serves inc state) (boots inc state) (not-true (serves inc state || boots inc state) left)).1 begins
 
 goes_stands : (inc : ℕ) (entry : NodeEntry) (state : NodeState) → RunsOrLeft inc state → RunsOrLeft inc (goes_on state entry)
 goes_stands inc entry (IsServing s) (inl runs) = absurd (let e : IsServing s ≡ IsBooting inc true = runs in cc)

@@ -55,9 +55,7 @@ use Rattle.law_driver.specs.Driven.{Driven, IsNode, act_behind, last_act, node_o
 use Rattle.law_driven_starts.specs.Starts.{EndsOwnBoots, IsStartOf, MayCallAtDoor, MayCloseAtNode, MayEndAtNode, stands_newest}
 use Rattle.law_driven_starts.proofs.Ends.{own_boots}
 use Rattle.law_driven_starts.proofs.Newest.{starts_newest}
-
-number_is : (one other : ℕ) → places.Node one ≡ places.Node other → one ≡ other
-number_is one other is = cc
+use Rattle.law_driven_starts.proofs.OwnBoots.{boots_own}
 
 -- turns at the door leave what a line did last at its node
 doors_pass : (mid : List Turn) (before : Option NodeAct) → AreDoor mid → fold act_behind before mid ≡ before
@@ -102,7 +100,8 @@ module _ (asked : Asked) (ran : Ran) (stand : Line → Stand) (line : Line) (hol
 
     by_node : (stage : Stage) → made_at boot.by boot.node stage trail → next_at boot.node stage ≡ places.Node node.number → may_close_at boot.by stage node.history
     by_node (ToEnd inc end) made next =
-        subst (λ (o : Option NodeAct). IsTrue (act_passes (opens_boot inc) o)) (sym (last_here (number_is boot.node node.number next) ∙ last_so inc end made)) (eq-eqb inc inc refl)
+        let here : boot.node ≡ node.number = cc in
+        subst (λ (o : Option NodeAct). IsTrue (act_passes (opens_boot inc) o)) (sym (last_here here ∙ last_so inc end made)) (eq-eqb inc inc refl)
     by_node Begins made next = tt
     by_node (ComesUp inc) made next = tt
     by_node (Scans inc after listed commits) made next = tt
@@ -113,15 +112,18 @@ module _ (asked : Asked) (ran : Ran) (stand : Line → Stand) (line : Line) (hol
         subst (λ (h : List NodeEntry). LegalNode node.number asked.settings.cache h) (sym (is.history ∙ same_history node.number 1 ran.trace.nodes))
         (nodes_rules node.number 1 asked.settings.cache ran.trace.door ran.trace.nodes driven.account.nodes).0
 
-    by_end : EndsOwnBoots node.history → (stage : Stage) → made_at boot.by boot.node stage trail → next_at boot.node stage ≡ places.Node node.number → may_end_at stage node.history
-    by_end ends (ToEnd inc end) made next = own_boots node.number asked.settings.cache boot.by inc node.history legal ends (by_node (ToEnd inc end) made next)
-    by_end ends Begins made next = tt
-    by_end ends (ComesUp inc) made next = tt
-    by_end ends (Scans inc after listed commits) made next = tt
-    by_end ends Ended made next = tt
+    ends_own : EndsOwnBoots node.history
+    ends_own = subst EndsOwnBoots (sym is.history) (boots_own node.number asked ran stand driven.account)
 
-    pub at_end : Made boot trail → EndsOwnBoots node.history → MayEndAtNode boot node
-    at_end made ends next = by_end ends boot.stage made next
+    by_end : (stage : Stage) → made_at boot.by boot.node stage trail → next_at boot.node stage ≡ places.Node node.number → may_end_at stage node.history
+    by_end (ToEnd inc end) made next = own_boots node.number asked.settings.cache boot.by inc node.history legal ends_own (by_node (ToEnd inc end) made next)
+    by_end Begins made next = tt
+    by_end (ComesUp inc) made next = tt
+    by_end (Scans inc after listed commits) made next = tt
+    by_end Ended made next = tt
+
+    pub at_end : Made boot trail → MayEndAtNode boot node
+    at_end made next = by_end boot.stage made next
 
     pub at_node : Made boot trail → MayCloseAtNode boot node
     at_node made next = by_node boot.stage made next

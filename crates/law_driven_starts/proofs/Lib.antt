@@ -1,4 +1,7 @@
 pub mod Newest
 pub mod Ends
-pub mod Goes
 pub mod Courses
+pub mod OneNode
+pub mod OwnTurns
+pub mod OwnBoots
+pub mod Goes

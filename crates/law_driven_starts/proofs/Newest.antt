@@ -1,74 +1,50 @@
 -- Where a start is to bring an incarnation up that wasn't fenced, no newer one of its node was.
-use Rattle.std.proofs.Common.{◌≡◌, ℕ, ◌≤◌, Bool, true, false, ◌&&◌, ◌||◌, not, List, [], ◌∷◌, ◌++◌, refl, sym, ap, subst, ◌∙◌, inl, inr, eqb, arith, append-nil, append_assoc}
+use Rattle.std.proofs.Common.{◌≡◌, ℕ, ◌≤◌, Bool, true, false, ◌&&◌, ◌||◌, not, List, [], ◌∷◌, ◌++◌, refl, sym, ap, subst, ◌∙◌, inl, inr, eqb, arith, append-nil}
 use Rattle.std.specs.Prelude.{IsTrue, None, Option, Some, if◌then◌else◌, nat_le}
-use Rattle.std.specs.List.{list_any}
 use Rattle.std.proofs.lemmas.Bool.{and_from, and_parts, cases_Bool, eq-eqb, eqb-true, false≢true, leb-true, or_cases, or_left, or_right}
 use Rattle.std.proofs.lemmas.List.Concat.{flat_map-append}
 use Rattle.aft_model.specs.declared.caller.By.{By}
 use Rattle.aft_model.specs.declared.door.DoorAct.{DoorAct}
 use Rattle.aft_model.specs.declared.door.DoorAct.TheVariants as doors
 use Rattle.aft_model.specs.declared.door.DoorEntry.{DoorEntry}
-use Rattle.aft_model.specs.declared.node.NodeAct.{NodeAct}
-use Rattle.aft_model.specs.declared.node.NodeAct.TheVariants as acts
 use Rattle.aft_model.specs.declared.node.NodeEntry.{NodeEntry}
-use Rattle.aft_model.specs.declared.script.Command.{Command}
-use Rattle.aft_model.specs.declared.script.Command.TheVariants as commands
 use Rattle.aft_model.specs.declared.script.Line.{Line}
 use Rattle.aft_model.specs.DoorKnowledge.{is_open}
 use Rattle.aft_model.specs.LegalDoor.{Legal, is_answered, may_come, may_follow}
 use Rattle.aft_model.specs.LegalNode.{LegalNode, may_follow_at}
 use Rattle.aft_model.specs.Membership.{Incarnation, fenced, fenced_in, incarnation, is_up, same_incarnation}
 use Rattle.aft_model.specs.NodeSights.{is_fenced}
-use Rattle.aft_model.specs.NodeState.{boots, newest, newest_after, node_state, serves}
+use Rattle.aft_model.specs.NodeState.{boots, newest, node_state, serves}
 use Rattle.aft_model.specs.Opening.{may_open, may_read, opening}
 use Rattle.aft_model.specs.ScanRun.{same_line}
-use Rattle.aft_model.proofs.Histories.{In, any_found, any_from, each_after_split, in_back, in_flat_map}
+use Rattle.aft_model.proofs.Histories.{In, any_found, any_from, each_after_split, in_flat_map}
 use Rattle.aft_model.proofs.Lists.{all_from}
-use Rattle.aft_model.proofs.Services.{newest-snoc}
 use Rattle.aft_door.specs.Refusals.{is_past}
-use Rattle.aft_lines.specs.Advance.{leads_to}
 use Rattle.aft_lines.specs.Asked.{Asked, Ran}
-use Rattle.aft_lines.specs.FinishedText.{line_of}
-use Rattle.aft_lines.specs.LineView.{door_entry_in, ends_of}
-use Rattle.aft_lines.specs.Lines.{lines, node_numbers}
-use Rattle.aft_lines.specs.Progress.{MustComeUp, Progress}
+use Rattle.aft_lines.specs.LineView.{door_entry_in}
+use Rattle.aft_lines.specs.Lines.{lines}
 use Rattle.aft_lines.specs.RunsSoFar.{position_of}
 use Rattle.aft_lines.specs.Steps.{Made, door_steps}
-use Rattle.aft_lines.specs.Turns.{AtDoor, AtNode, AtOffice, Turn, turns}
+use Rattle.aft_lines.specs.Turns.{AtDoor, AtNode, AtOffice, Turn}
 use Rattle.aft_lines.specs.Views.{view_of}
 use Rattle.law_attempts.proofs.Newest.{booting_newest, serving_newest}
 use Rattle.law_holders.specs.Rows.{is_of_node}
 use Rattle.law_claims.specs.Moments.{node_entry_in, node_steps}
 use Rattle.law_runs.specs.Runs.{Goes, run_steps, without_office}
-use Rattle.law_runs.proofs.Come.{door_parts, it_comes}
-use Rattle.law_runs.proofs.InStages.{kept_behind}
+use Rattle.law_runs.proofs.Come.{door_parts}
 use Rattle.law_runs.proofs.LegalRuns.{so_far_goes}
 use Rattle.law_runs.proofs.Nodes.{nodes_rules}
-use Rattle.law_runs.proofs.Own.{has_come}
 use Rattle.law_runs.proofs.Retires.{split_at}
 use Rattle.law_steps.proofs.Histories.{door_is}
 use Rattle.law_held.specs.Starting.{is_start, to_come_up}
-use Rattle.law_held.proofs.Begun.{boots_in, start_at}
-use Rattle.law_held.proofs.Boots.{Stood, begins_boot, stood_behind}
-use Rattle.law_held.proofs.Low.{starts_at}
+use Rattle.law_held.proofs.Boots.{Stood, stood_behind}
+use Rattle.law_held.proofs.BootsOnce.{newest_grows}
 use Rattle.law_held.proofs.Stand.{node_all}
-use Rattle.law_held.proofs.Starts.{flat_in, turn_step, ups_boot}
+use Rattle.law_held.proofs.Starts.{ups_boot}
+use Rattle.law_held.proofs.StartsEnd.{IsBegun, its_begun}
 use Rattle.law_accounts.specs.Account.{Account, Stand}
 use Rattle.law_accounts.proofs.Runs.{account_runs}
 use Rattle.law_driven_starts.specs.Starts.{StartsAreNewest, stands_newest}
-
--- ---- the newest incarnation of a longer history isn't older
-
-pub newer : (n : ℕ) (act : NodeAct) → n ≤ newest_after n act
-newer n (acts.Booting inc) = omega arith
-newer n act = omega arith
-
-newest_grows : (more history : List NodeEntry) → newest history ≤ newest (history ++ more)
-newest_grows [] history = subst (λ (h : List NodeEntry). newest history ≤ newest h) (sym (append-nil history)) (omega arith)
-newest_grows (entry ∷ more) history =
-    let one : newest history ≤ newest (history ++ entry ∷ []) = subst (λ (n : ℕ). newest history ≤ n) (sym (newest-snoc history entry)) (newer (newest history) entry.act) in
-    let rest : newest (history ++ entry ∷ []) ≤ newest (history ++ entry ∷ more) = subst (λ (h : List NodeEntry). newest (history ++ entry ∷ []) ≤ newest h) (append_assoc history (entry ∷ []) more) (newest_grows more (history ++ entry ∷ [])) in
-    omega arith
 
 -- ---- whoever is fenced is up then
 
@@ -141,10 +117,7 @@ module _ (asked : Asked) (ran : Ran) (stand : Line → Stand) (account : Account
 
   -- ---- one that its node began to boot
 
-  abbrev IsBegun : Incarnation → Type 0
-  IsBegun who = IsTrue (is_of_node who) × IsTrue (list_any (λ (e : NodeEntry). begins_boot who.inc e.act) (node_steps who.node (run_steps ran)))
-
-  newest_there : (who : Incarnation) → IsBegun who → IsTrue (stands_newest ran.trace.door (Some who))
+  newest_there : (who : Incarnation) → IsBegun asked ran so who → IsTrue (stands_newest ran.trace.door (Some who))
   newest_there who (of, begun) = by_stood (stood_behind asked ran so (run_steps ran) [] all who.node who.inc begun)
     where
       newest_so : newest (node_steps who.node (run_steps ran)) ≡ who.inc → IsTrue (stands_newest ran.trace.door (Some who))
@@ -170,42 +143,10 @@ module _ (asked : Asked) (ran : Ran) (stand : Line → Stand) (account : Account
 
   -- ---- starts
 
-  -- whom a turn of a line began to boot
-  begun_there : (line : Line) (who : Incarnation) (turn : Turn) → IsTrue (boots_in who.node who.inc turn) → In turn (turns (line_of line) ran.trace) → IsBegun who
-  begun_there line who (AtDoor place act) its there = absurd (false≢true its)
-  begun_there line who (AtOffice history entry) its there = absurd (false≢true its)
-  begun_there line who (AtNode at history entry) its there =
-      let tests = and_parts (eqb who.node at) (begins_boot who.inc entry.act) its in
-      let same = eqb-true who.node at tests.0 in
-      let step = turn_step asked ran so (line_of line) at history entry there in
-      let m : Made = record { by = entry.by; turn = AtNode at history entry } in
-      let comes = it_comes asked ran so step.0 step.1 m step.2 (kept_behind asked ran so step.0 (m ∷ step.1) step.2).0 in (
-        subst (λ (n : ℕ). IsTrue (is_of_node (incarnation n who.inc))) (sym same) (comes.2 who.inc),
-        any_from (λ (e : NodeEntry). begins_boot who.inc e.act) entry (node_steps who.node (run_steps ran))
-            (flat_in (λ (x : Made). node_entry_in who.node x.turn) m entry (run_steps ran) (subst (λ (l : List Made). In m l) (sym step.2) (in_back m step.0 (m ∷ step.1) (inl refl)))
-            (subst (λ (b : Bool). In entry (if b then entry ∷ [] else [])) (sym (eq-eqb at who.node (sym same))) (inl refl))) tests.1,
-      )
-
-  comes_as : (p : Progress) (who : Incarnation) → to_come_up (Some p) ≡ Some who → starts_at p ≡ Some who
-  comes_as (MustComeUp one) who is = is
-  comes_as p who is = absurd (let e : None ≡ Some who = is in cc)
-
-  start_so : (command : Command) → IsTrue (is_start command) → (home : ℕ) × (command ≡ commands.Start home)
-  start_so (commands.Start home) is = (home, refl)
-  start_so command is = absurd (false≢true is)
-
   module _ (line : Line) (listed : In line (lines asked)) where
-    its_begun : IsTrue (is_start line.order) → (who : Incarnation) → to_come_up (position_of (view_of asked ran line)) ≡ Some who → IsBegun who
-    its_begun start who is =
-        let come = has_come asked ran so line listed in
-        let home = start_so line.order start in
-        let turn = start_at (ends_of (view_of asked ran line)) home.0 (node_numbers asked.settings) (turns (line_of line) ran.trace) come.0
-        (ap (λ (c : Command). leads_to c (node_numbers asked.settings) (ends_of (view_of asked ran line)) (turns (line_of line) ran.trace)) (sym home.1) ∙ come.1) who (comes_as come.0 who (ap to_come_up (sym come.1) ∙ is)) in
-        begun_there line who turn.0 turn.1 turn.2
-
     stands : IsTrue (is_start line.order) → (o : Option Incarnation) → to_come_up (position_of (view_of asked ran line)) ≡ o → IsTrue (stands_newest ran.trace.door o)
     stands start None is = refl
-    stands start (Some who) is = newest_there who (its_begun start who is)
+    stands start (Some who) is = newest_there who (its_begun asked ran so line listed start who is)
 
     its_newest : IsTrue (not (is_start line.order) || stands_newest ran.trace.door (to_come_up (position_of (view_of asked ran line))))
     its_newest = elim (cases_Bool (is_start line.order)) [

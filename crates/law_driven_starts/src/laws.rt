@@ -22,6 +22,7 @@ ghost use Rattle.aft_boot.specs.Booted.{Made};
 ghost use Rattle.aft_boot.specs.BootView.{BootView};
 ghost use Rattle.aft_turns.specs.Trail.{Trail};
 ghost use Rattle.law_accounts.specs.Account.{Account, Stand};
+ghost use Rattle.law_accounts.specs.Adding.{numbered_in};
 ghost use Rattle.law_driver.specs.Driven.{Driven, IsNode};
 ghost use Rattle.law_driven_starts.specs.Starts.{EndsOwnBoots, IsStartOf, MayCallAtDoor, MayCloseAtNode, MayEndAtNode, StartsAreNewest, ends_boot_of};
 
@@ -42,11 +43,15 @@ pub fn starts_end_own()
     ensures { (ends : Ends) (home number at : ℕ) (nodes : List ℕ) (line : List Turn) (first entry : NodeEntry) (start before : List NodeEntry) (p : Progress) → leads_to (commands.Start home) nodes ends ((AtNode number start first ∷ line) ++ AtNode at before entry ∷ []) ≡ Some p → (inc : ℕ) × (first.act ≡ Booting inc) × IsTrue (ends_boot_of (incarnation number inc) at entry.act) }
 {}
 
+/// In a run that has an account each boot of a node is ended by the line that began it.
+pub fn boots_are_ended_by_their_lines()
+    ensures { (asked : Asked) (ran : Ran) (stand : Line → Stand) → Account asked ran stand → (number : ℕ) → EndsOwnBoots (numbered_in number 1 ran.trace.nodes) }
+{}
+
 /// A start that a driver runs has what its machine asks of its next turn: at its node, which has all that the run's node of that
-/// number has, that it may close its boot, and where each boot there is ended by the line that began it, that the node still boots
-/// the incarnation, or has left it; and at the run's door.
+/// number has, that it may close its boot, and that the node still boots the incarnation, or has left it; and at the run's door.
 pub fn starts_may_go_on()
     ensures at_node { (asked : Asked) (ran : Ran) (stand : Line → Stand) (line : Line) (hold : Hold) (trail : Trail) (boot : BootView) (node : NodeView) → Driven asked ran stand line hold trail → IsStartOf line boot → Made boot trail → IsNode asked ran node → MayCloseAtNode boot node }
-    ensures at_end { (asked : Asked) (ran : Ran) (stand : Line → Stand) (line : Line) (hold : Hold) (trail : Trail) (boot : BootView) (node : NodeView) → Driven asked ran stand line hold trail → IsStartOf line boot → Made boot trail → IsNode asked ran node → EndsOwnBoots node.history → MayEndAtNode boot node }
+    ensures at_end { (asked : Asked) (ran : Ran) (stand : Line → Stand) (line : Line) (hold : Hold) (trail : Trail) (boot : BootView) (node : NodeView) → Driven asked ran stand line hold trail → IsStartOf line boot → Made boot trail → IsNode asked ran node → MayEndAtNode boot node }
     ensures at_door { (asked : Asked) (ran : Ran) (stand : Line → Stand) (line : Line) (hold : Hold) (trail : Trail) (boot : BootView) → Driven asked ran stand line hold trail → IsStartOf line boot → Made boot trail → MayCallAtDoor boot ran.trace.door }
 {}

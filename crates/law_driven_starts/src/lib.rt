@@ -6,4 +6,7 @@
 
 mod laws;
 
-pub use laws::{own_boots_run, starts_are_newest, starts_end_own, starts_may_go_on};
+pub use laws::{
+    boots_are_ended_by_their_lines, own_boots_run, starts_are_newest, starts_end_own,
+    starts_may_go_on,
+};

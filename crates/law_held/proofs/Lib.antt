@@ -33,3 +33,4 @@ pub mod Begun
 pub mod Starts
 pub mod StartsEnd
 pub mod Collects
+pub mod BootsOnce

@@ -48,6 +48,10 @@ one_boots (IsBooting b running) i j one other = eqb-true i b (first (eqb i b) on
     first false is = is
 one_boots (IsServing s) i j one other = eqb-true i s.inc one ∙ sym (eqb-true j s.inc other)
 
+pub start_so : (command : Command) → IsTrue (is_start command) → (home : ℕ) × (command ≡ commands.Start home)
+start_so (commands.Start home) is = (home, refl)
+start_so command is = absurd (false≢true is)
+
 module _ (asked : Asked) (ran : Ran) (so : Goes asked ran) where
   all : run_steps ran ≡ run_steps ran ++ []
   all = sym (append-nil (run_steps ran))
@@ -68,8 +72,12 @@ module _ (asked : Asked) (ran : Ran) (so : Goes asked ran) where
         | inr office ↦ absurd (office_none (line_of line) [] ran.trace.office at history entry office)
       ]
 
-  -- whom a turn of a line began to boot, of a node
-  begun_there : (line : Line) (who : Incarnation) (y : Turn) → IsTrue (boots_in who.node who.inc y) → In y (turns (line_of line) ran.trace) → IsTrue (is_of_node who) × IsTrue (list_any (λ (e : NodeEntry). begins_boot who.inc e.act) (node_steps who.node (run_steps ran)))
+  -- an incarnation of a node that this began to boot
+  abbrev pub IsBegun : Incarnation → Type 0
+  IsBegun who = IsTrue (is_of_node who) × IsTrue (list_any (λ (e : NodeEntry). begins_boot who.inc e.act) (node_steps who.node (run_steps ran)))
+
+  -- whom a turn of a line began to boot
+  begun_there : (line : Line) (who : Incarnation) (y : Turn) → IsTrue (boots_in who.node who.inc y) → In y (turns (line_of line) ran.trace) → IsBegun who
   begun_there line who (AtDoor p a) its there = absurd (false≢true its)
   begun_there line who (AtOffice h e) its there = absurd (false≢true its)
   begun_there line who (AtNode at history entry) its there =
@@ -110,25 +118,24 @@ module _ (asked : Asked) (ran : Ran) (so : Goes asked ran) where
   comes_as (MustComeUp one) who is = is
   comes_as p who is = absurd (let e : None ≡ Some who = is in cc)
 
-  start_so : (command : Command) → IsTrue (is_start command) → (home : ℕ) × (command ≡ commands.Start home)
-  start_so (commands.Start home) is = (home, refl)
-  start_so command is = absurd (false≢true is)
-
-  its_stand : (line : Line) (listed : In line (lines asked)) → IsTrue (is_start line.order) → (o : Option Incarnation) → to_come_up (Some (has_come asked ran so line listed).0) ≡ o → IsTrue (stands_alone ran.trace.door o)
-  its_stand line listed start None is = refl
-  its_stand line listed start (Some who) is =
+  -- whom a start is to bring up was begun to boot
+  pub its_begun : (line : Line) → In line (lines asked) → IsTrue (is_start line.order) → (who : Incarnation) → to_come_up (position_of (view_of asked ran line)) ≡ Some who → IsBegun who
+  its_begun line listed start who is =
       let come = has_come asked ran so line listed in
       let home = start_so line.order start in
       let y = start_at (ends_of (view_of asked ran line)) home.0 (node_numbers asked.settings) (turns (line_of line) ran.trace) come.0
-      (ap (λ (c : Command). leads_to c (node_numbers asked.settings) (ends_of (view_of asked ran line)) (turns (line_of line) ran.trace)) (sym home.1) ∙ come.1) who (comes_as come.0 who is) in
-      let begun = begun_there line who y.0 y.1 y.2 in
-      alone_there who begun.0 begun.1
+      (ap (λ (c : Command). leads_to c (node_numbers asked.settings) (ends_of (view_of asked ran line)) (turns (line_of line) ran.trace)) (sym home.1) ∙ come.1) who (comes_as come.0 who (ap to_come_up (sym come.1) ∙ is)) in
+      begun_there line who y.0 y.1 y.2
+
+  its_stand : (line : Line) → In line (lines asked) → IsTrue (is_start line.order) → (o : Option Incarnation) → to_come_up (position_of (view_of asked ran line)) ≡ o → IsTrue (stands_alone ran.trace.door o)
+  its_stand line listed start None is = refl
+  its_stand line listed start (Some who) is = (let begun = its_begun line listed start who is in alone_there who begun.0 begun.1)
 
   start_stands : (line : Line) (listed : In line (lines asked)) → IsTrue (not (is_start line.order) || stands_alone ran.trace.door (to_come_up (position_of (view_of asked ran line))))
   start_stands line listed = elim (cases_Bool (is_start line.order)) [
     | inl start ↦
         or_right (not (is_start line.order)) (stands_alone ran.trace.door (to_come_up (position_of (view_of asked ran line))))
-        (subst (λ (o : Option Progress). IsTrue (stands_alone ran.trace.door (to_come_up o))) (sym (has_come asked ran so line listed).1) (its_stand line listed start (to_come_up (Some (has_come asked ran so line listed).0)) refl))
+        (its_stand line listed start (to_come_up (position_of (view_of asked ran line))) refl)
     | inr other ↦ or_left (not (is_start line.order)) (stands_alone ran.trace.door (to_come_up (position_of (view_of asked ran line)))) (ap not other)
   ]
 

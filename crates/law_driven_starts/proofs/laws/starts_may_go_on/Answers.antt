@@ -8,4 +8,4 @@ pub returns-clause-at_door : goal.returns-clause-at_door
 returns-clause-at_door c asked ran stand line hold trail boot driven of made = at_door asked ran stand line hold trail boot driven of made
 
 pub returns-clause-at_end : goal.returns-clause-at_end
-returns-clause-at_end c asked ran stand line hold trail boot node driven of made is ends = at_end asked ran stand line hold trail boot driven of node is made ends
+returns-clause-at_end c asked ran stand line hold trail boot node driven of made is = at_end asked ran stand line hold trail boot driven of node is made

@@ -32,7 +32,7 @@ use Rattle.law_held.proofs.DeskHeld.{among_itself}
 use Rattle.law_held.proofs.Stand.{node_all}
 use Rattle.law_accounts.specs.Account.{Account, Stand}
 use Rattle.law_accounts.proofs.Runs.{account_runs}
-use Rattle.law_driven_commits.proofs.Moves.{MovesOn, moves_at_first, steps_move}
+use Rattle.law_accounts.proofs.Moves.{MovesOn, moves_at_first, steps_move}
 
 module _ (asked : Asked) (ran : Ran) (stand : Line → Stand) (account : Account asked ran stand) (line : Line) (listed : In line (lines asked)) (of : IsTrue (is_of_attempt line.order)) where
   goes : Goes asked ran
