@@ -92,6 +92,18 @@ done_is node (GivesUp a reply) done P ended = absurd (differ done)
     differ : places.Node node ≡ places.Done → ⊥
     differ e = cc
 
+-- one that isn't over has a turn left
+pub going_so : (aim : Aim) (node : ℕ) (stage : Stage) → (next_at node stage ≡ places.Done → ⊥) → 1 ≤ left_at aim stage
+going_so aim node (Ended given) going = absurd (going refl)
+going_so aim node Begins going = omega arith
+going_so aim node (Claims a) going = omega arith
+going_so aim node (Seeks a Record) going = omega arith
+going_so aim node (Seeks a Marker) going = omega arith
+going_so aim node (Runs a) going = omega arith
+going_so aim node (Forgets a id) going = omega arith
+going_so aim node (LetsGo a reply) going = omega arith
+going_so aim node (GivesUp a reply) going = omega arith
+
 -- only a begin runs
 unused_begins : (aim : Aim) (way : Way) (release : Option ℕ) → IsUnused aim way release → aim ≡ Begin
 unused_begins aim (LookedForMarker p q r answers.Absent) None unused = unused
@@ -388,6 +400,16 @@ module _ (aim : Aim) (by : By) (node : ℕ) (uuid : List ℕ) where
         ended : (given : Option Attempt) → made_at aim by node uuid (Ended given) trail → EndsRightly view
         ended given (inl at_once) = ends_at_once given at_once
         ended given (inr later) = ends_later given later looked
+
+  -- of one that is over the last turn alone answers, whatever it has seen
+  pub answers_so : (stage : Stage) (trail : Trail) → made_at aim by node uuid stage trail → next_at node stage ≡ places.Done → IsTrue (answers_last trail.turns)
+  answers_so stage trail made done = done_is node stage done (λ (s : Stage). made_at aim by node uuid s trail → IsTrue (answers_last trail.turns)) ended made
+    where
+      ended : (given : Option Attempt) → made_at aim by node uuid (Ended given) trail → IsTrue (answers_last trail.turns)
+      ended given (inl at_once) = subst (λ (ts : List Turn). IsTrue (answers_last ts)) (sym at_once.turns) refl
+      ended given (inr later) =
+          subst (λ (ts : List Turn). IsTrue (answers_last ts)) (sym (ended_turns given trail later))
+          (answered_so aim by node uuid later.attempt later.come.before later.front later.way later.release later.last_before later.last_front later.closing)
 
   pub gives_so : (stage : Stage) (trail : Trail) → made_at aim by node uuid stage trail → next_at node stage ≡ places.Done → attempt_of trail.turns ≡ given_at stage
   gives_so stage trail made done = done_is node stage done (λ (s : Stage). made_at aim by node uuid s trail → attempt_of trail.turns ≡ given_at s) ended made

@@ -1,9 +1,10 @@
 //! A begin.
 
-ghost use Rattle.std.specs.Prelude.{◌≡◌, ◌≤◌, ◌<◌, ℕ, IsTrue, List};
+ghost use Rattle.std.specs.Prelude.{◌≡◌, ◌≢◌, ◌≤◌, ◌<◌, ℕ, IsTrue, List};
 ghost use Rattle.aft_begin.specs.Made.{Made, MayCall, MayEnd, may_close, told_fault};
 ghost use Rattle.aft_begin.specs.View.{hold_of, left_of, next_of};
 ghost use Rattle.aft_keeper.specs.Cause.{HasCause};
+ghost use Rattle.aft_lines.specs.LineCourse.{answers_last};
 ghost use Rattle.aft_lines.specs.LineView.{LineView};
 ghost use Rattle.aft_lines.specs.Lines.{attempt_of};
 ghost use Rattle.aft_model.specs.DoorKnowledge.{is_open};
@@ -115,11 +116,14 @@ impl Begin {
 
     /// What stands of its line, by the turns that it has made: they are a beginning of a begin's course, made rightly, and answer
     /// nothing before the last. Once it is over they are the whole course, what is answered has its cause, and what it gives its
-    /// client is what the last turn says. A turn at the node has seen at the door what it asks.
+    /// client is what the last turn says. A turn at the node has seen at the door what it asks. Whatever its last turn has seen
+    /// there, one that is over has answered by its last turn and by no other, and one that isn't over has a turn left.
     pub fn so_far(&self)
         ensures goes { (hold : Hold) (capacity : ℕ) (trail : Trail) (view : LineView) → Made self.now trail → RanSo (commands.Begin self.now.uuid self.now.node) hold capacity trail view → (next_of self.now ≡ places.Done → HasLooked trail view) → GoesRightly view }
         ensures unanswered { (hold : Hold) (capacity : ℕ) (trail : Trail) (view : LineView) → Made self.now trail → RanSo (commands.Begin self.now.uuid self.now.node) hold capacity trail view → 1 ≤ left_of self.now → IsUnanswered view }
         ensures ends { (hold : Hold) (capacity : ℕ) (trail : Trail) (view : LineView) → Made self.now trail → RanSo (commands.Begin self.now.uuid self.now.node) hold capacity trail view → next_of self.now ≡ places.Done → HasLooked trail view → EndsRightly view }
+        ensures answers { (trail : Trail) → Made self.now trail → next_of self.now ≡ places.Done → IsTrue (answers_last trail.turns) }
+        ensures going { next_of self.now ≢ places.Done → 1 ≤ left_of self.now }
         ensures gives { (trail : Trail) → Made self.now trail → next_of self.now ≡ places.Done → attempt_of trail.turns ≡ (hold_of self.now).attempt }
         ensures sees { (trail : Trail) (seen : List DoorEntry) → Made self.now trail → SeesOwn self.now.by trail.turns seen → IsTrue (last_sees seen trail.turns) }
     {

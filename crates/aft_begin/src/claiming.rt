@@ -1,11 +1,12 @@
 //! A line that claims a UUID: what a begin and a forget share.
 
-ghost use Rattle.std.specs.Prelude.{◌≡◌, ◌≤◌, ◌<◌, ℕ, IsTrue, List};
+ghost use Rattle.std.specs.Prelude.{◌≡◌, ◌≢◌, ◌≤◌, ◌<◌, ℕ, IsTrue, List};
 ghost use Rattle.aft_begin.specs.Made.{Knows, Made, MayCall, MayEnd, may_close, told_fault};
 ghost use Rattle.aft_begin.specs.View.{asks, given_at, hold_of, left_of, next_of};
 ghost use Rattle.aft_begin.specs.declared.aim.Aim.TheVariants as aims;
 ghost use Rattle.aft_begin.specs.declared.stage.Stage.TheVariants as stages;
 ghost use Rattle.aft_keeper.specs.Cause.{HasCause};
+ghost use Rattle.aft_lines.specs.LineCourse.{answers_last};
 ghost use Rattle.aft_lines.specs.LineView.{LineView};
 ghost use Rattle.aft_lines.specs.Lines.{attempt_of};
 ghost use Rattle.aft_model.specs.DoorKnowledge.{is_open};
@@ -187,11 +188,14 @@ impl Claiming {
         let _ = &self.stage;
     }
 
-    /// What stands of its line, by the turns that it has made.
+    /// What stands of its line, by the turns that it has made. Once it is over the last of them has answered and no other, whatever
+    /// that has seen at the door; and one that isn't over has a turn left.
     pub(crate) fn so_far(&self)
         ensures goes { (hold : Hold) (capacity : ℕ) (trail : Trail) (view : LineView) → Made self.now trail → RanSo (asks self.now.aim self.now.uuid self.now.node) hold capacity trail view → (next_of self.now ≡ places.Done → HasLooked trail view) → GoesRightly view }
         ensures unanswered { (hold : Hold) (capacity : ℕ) (trail : Trail) (view : LineView) → Made self.now trail → RanSo (asks self.now.aim self.now.uuid self.now.node) hold capacity trail view → 1 ≤ left_of self.now → IsUnanswered view }
         ensures ends { (hold : Hold) (capacity : ℕ) (trail : Trail) (view : LineView) → Made self.now trail → RanSo (asks self.now.aim self.now.uuid self.now.node) hold capacity trail view → next_of self.now ≡ places.Done → HasLooked trail view → EndsRightly view }
+        ensures answers { (trail : Trail) → Made self.now trail → next_of self.now ≡ places.Done → IsTrue (answers_last trail.turns) }
+        ensures going { next_of self.now ≢ places.Done → 1 ≤ left_of self.now }
         ensures gives { (trail : Trail) → Made self.now trail → next_of self.now ≡ places.Done → attempt_of trail.turns ≡ (hold_of self.now).attempt }
         ensures sees { (trail : Trail) (seen : List DoorEntry) → Made self.now trail → SeesOwn self.now.by trail.turns seen → IsTrue (last_sees seen trail.turns) }
         ensures knows { (trail : Trail) (seen : List DoorEntry) → Made self.now trail → SeesOwn self.now.by trail.turns seen → Knows self.now seen }

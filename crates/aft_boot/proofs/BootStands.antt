@@ -25,6 +25,7 @@ use Rattle.aft_lines.specs.Advance.{is_led_to_end}
 use Rattle.aft_lines.specs.Causes.{Caused}
 use Rattle.aft_lines.specs.CausesNodes.{is_boot_running}
 use Rattle.aft_lines.specs.CourseWords.{Ends, closes}
+use Rattle.aft_lines.specs.LineCourse.{answers_last}
 use Rattle.aft_lines.specs.LineView.{LineView, ends_of, has_left, last_front}
 use Rattle.aft_lines.specs.Lines.{node_numbers}
 use Rattle.aft_lines.specs.Makes.{starts_at_node}
@@ -38,8 +39,8 @@ use Rattle.aft_turns.specs.Trail.{Trail}
 use Rattle.aft_turns.specs.declared.turn.Where.TheVariants as places
 use Rattle.aft_turns.proofs.Closed.{led_is_some}
 use Rattle.aft_turns.proofs.Views.{by_words, with_words}
-use Rattle.aft_boot.specs.Booted.{AreRead, Closes, EndedLater, HasRead, HasStopped, IsShutOut, IsToEnd, PageAt, StopsAt, begun_turns, listed_on, made_at, page_act, page_turn, scan_page, up_turns}
-use Rattle.aft_boot.specs.BootView.{left_at, next_at}
+use Rattle.aft_boot.specs.Booted.{AreRead, Closes, EndedLater, HasBegun, HasRead, HasStopped, IsShutOut, IsToEnd, PageAt, StopsAt, begun_turns, listed_on, made_at, page_act, page_turn, scan_page, up_turns}
+use Rattle.aft_boot.specs.BootView.{Fits, left_at, next_at}
 use Rattle.aft_boot.specs.Crashed.{turn_at}
 use Rattle.aft_boot.specs.declared.stage.Stage.{Stage}
 use Rattle.aft_boot.specs.declared.stage.Stage.TheVariants.{Begins, ComesUp, Ended, Ends as ToEnd, Scans}
@@ -69,6 +70,11 @@ all_right : (by : By) (node inc : ℕ) (hold : Hold) (before : List NodeEntry) (
 all_right by node inc hold before front up pages more its =
     list_all-append (is_right (commands.Start node) hold) (begun_turns by node inc before front up pages) more
     ∙ and_from _ _ (and_from _ _ (right_at by node hold before front (acts.Booting inc) None refl) (list_all-append (is_right (commands.Start node) hold) (up_turns node inc up) (map (page_turn node inc) pages) ∙ and_from _ _ (ups_right node inc hold up) (pages_right node inc hold pages))) its
+
+-- behind its first turn it is at the door
+begun_door : (node inc : ℕ) (up : Option ℕ) (pages : List PageAt) (more : List Turn) → AreDoor more → AreDoor ((up_turns node inc up ++ map (page_turn node inc) pages) ++ more)
+begun_door node inc up pages more door =
+    both_door (up_turns node inc up ++ map (page_turn node inc) pages) more (both_door (up_turns node inc up) (map (page_turn node inc) pages) (up_door node inc up) (pages_door node inc pages)) door
 
 one_reply : (r q : Reply) → Some r ≡ Some q → r ≡ q
 one_reply r q e = cc
@@ -102,7 +108,7 @@ module _ (by : By) (node : ℕ) (hold : Hold) (view : LineView) (inc : ℕ) (bef
 
   silent_so : (more : List Turn) → AreDoor more → IsTrue (list_all (λ turn. is_silent (answer_in turn)) (begun more))
   silent_so more door =
-      and_from _ _ refl (are_silent ((up_turns node inc up ++ map (page_turn node inc) pages) ++ more) (both_door (up_turns node inc up ++ map (page_turn node inc) pages) more (both_door (up_turns node inc up) (map (page_turn node inc) pages) (up_door node inc up) (pages_door node inc pages)) door))
+      and_from _ _ refl (are_silent ((up_turns node inc up ++ map (page_turn node inc) pages) ++ more) (begun_door node inc up pages more door))
 
   -- ---- what its scan is at
 
@@ -146,7 +152,7 @@ module _ (by : By) (node : ℕ) (hold : Hold) (view : LineView) (inc : ℕ) (bef
       },
       record {
         leads = led;
-        answers = last_answers ((up_turns node inc up ++ map (page_turn node inc) pages) ++ more) (turn_at by node before front (acts.Booting inc) None) (last act reply) (both_door (up_turns node inc up ++ map (page_turn node inc) pages) more (both_door (up_turns node inc up) (map (page_turn node inc) pages) (up_door node inc up) (pages_door node inc pages)) door) refl refl;
+        answers = last_answers ((up_turns node inc up ++ map (page_turn node inc) pages) ++ more) (turn_at by node before front (acts.Booting inc) None) (last act reply) (begun_door node inc up pages more door) refl refl;
         caused = λ told is. subst (Caused (ran (all_turns more act reply))) (one_reply reply told (sym (ends_with (begun more) (last act reply)) ∙ is)) caused;
       },
     )
@@ -244,6 +250,39 @@ nothing_left node (ToEnd inc end) e = absurd (not_node e)
     not_node : places.Node node ≡ places.Done → ⊥
     not_node e = cc
 nothing_left node Ended e = refl
+
+-- and any other has a turn left
+pub going_so : (node : ℕ) (stage : Stage) → Fits stage → (next_at node stage ≡ places.Done → ⊥) → 1 ≤ left_at stage
+going_so node Begins fits going = omega arith
+going_so node (ComesUp inc) fits going = omega arith
+going_so node (Scans inc after listed commits) fits going = let few = fits.few in omega arith
+going_so node (ToEnd inc end) fits going = omega arith
+going_so node Ended fits going = absurd (going refl)
+
+-- ---- the last turn alone answers, whatever it has seen
+
+stops_door : (node inc : ℕ) (look : List DoorEntry) (after : List ℕ) (listed : ℕ) (more : List Turn) (reply : Reply) → StopsAt node inc look after listed more reply → AreDoor more
+stops_door node inc look after listed more reply (inl (none, shut)) = subst AreDoor (sym none) refl
+stops_door node inc look after listed more reply (inr (place, answer, one, stops)) = subst AreDoor (sym one) refl
+
+module _ (by : By) (node : ℕ) where
+  begun_answers : (inc : ℕ) (up : Option ℕ) (pages : List PageAt) (more : List Turn) (since : Trail) (begun : HasBegun by node inc up pages more since) (last : Turn) (turns : List Turn) → turns ≡ since.turns ++ last ∷ [] → AreDoor more → IsTrue (is_some (answer_in last)) → IsTrue (answers_last turns)
+  begun_answers inc up pages more since begun last turns are door told =
+      subst (λ (ts : List Turn). IsTrue (answers_last ts)) (sym (are ∙ ap (λ (ts : List Turn). ts ++ last ∷ []) begun.turns))
+      (last_answers ((up_turns node inc up ++ map (page_turn node inc) pages) ++ more) (turn_at by node begun.before begun.front (acts.Booting inc) None) last (begun_door node inc up pages more door) refl told)
+
+  later_answers : (trail : Trail) (ended : EndedLater by node trail) (end : BootEnd) → IsToEnd by node ended.inc end ended.since → IsTrue (answers_last trail.turns)
+  later_answers trail ended (Shown commits) has =
+      begun_answers ended.inc has.up has.pages [] ended.since has.begun (turn_at by node ended.before ended.front ended.act (Some ended.reply)) trail.turns ended.turns refl refl
+  later_answers trail ended (Refused why) has =
+      begun_answers ended.inc has.up has.pages has.more ended.since has.begun (turn_at by node ended.before ended.front ended.act (Some ended.reply)) trail.turns ended.turns (stops_door node ended.inc ended.since.look has.after (length (listed_on has.pages)) has.more why has.stops) refl
+
+  pub answers_so_far : (trail : Trail) (stage : Stage) → stage ≡ Ended → made_at by node stage trail → IsTrue (answers_last trail.turns)
+  answers_so_far trail stage over made = by_end (subst (λ (s : Stage). made_at by node s trail) over made)
+    where
+      by_end : made_at by node Ended trail → IsTrue (answers_last trail.turns)
+      by_end (inl once) = subst (λ (ts : List Turn). IsTrue (answers_last ts)) (sym once.turns) refl
+      by_end (inr later) = later_answers trail later later.end later.is_to
 
 none_read : AreRead []
 none_read = record { few = omega arith; readable = refl }

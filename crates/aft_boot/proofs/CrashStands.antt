@@ -21,7 +21,7 @@ use Rattle.aft_model.proofs.OneCommit.{same_itself}
 use Rattle.aft_lines.specs.Advance.{if_so, is_led_to_end}
 use Rattle.aft_lines.specs.Causes.{Caused}
 use Rattle.aft_lines.specs.CausesNodes.{earliest, is_none_up}
-use Rattle.aft_lines.specs.LineCourse.{goes_down}
+use Rattle.aft_lines.specs.LineCourse.{answers_last, goes_down}
 use Rattle.aft_lines.specs.LineView.{LineView, last_front}
 use Rattle.aft_lines.specs.Makes.{crashes_at_node}
 use Rattle.aft_lines.specs.Progress.{IsOver}
@@ -184,6 +184,12 @@ nothing_left node (Tells fenced) e = absurd (node_not e)
     node_not e = cc
 nothing_left node Ended e = refl
 
+-- and any other has a turn left
+pub going_so : (node : ℕ) (stage : Fencing) → (next_at node stage ≡ places.Done → ⊥) → 1 ≤ left_at stage
+going_so node Begins going = omega arith
+going_so node (Tells fenced) going = omega arith
+going_so node Ended going = absurd (going refl)
+
 module _ (by : By) (node : ℕ) (hold : Hold) (capacity : ℕ) where
   -- a line as it ran stands so, where one of these turns does
   so : (P : LineView → Type 0) (trail : Trail) (view : LineView) (turns : List Turn) → RanSo (commands.Crash node) hold capacity trail view → trail.turns ≡ turns → P (ran by node hold view turns) → P view
@@ -229,6 +235,16 @@ module _ (by : By) (node : ℕ) (hold : Hold) (capacity : ℕ) where
           (turns ∙ ap (λ (ts : List Turn). ts ++ turn_at by node ended.before ended.front act (Some reply) ∷ []) begun ∙ ap (λ (r : Reply). turn_at by node ended.before ended.front act (Some r) ∷ []) told
           ∙ ap (λ (x : NodeAct). turn_at by node ended.before ended.front x (Some (replies.NotUp node)) ∷ []) is_nothing)
           (λ rest begins late. not_up_ends by node hold view ended.before ended.front trail.look rest (subst (λ (look : List DoorEntry). up_now node look ≡ None) (sym ended.look) none) begins (late refl (subst (λ (look : List DoorEntry). 1 ≤ length look) (sym ended.look) made)))
+
+-- of one that is over the last turn alone answers, whatever it has seen
+pub answers_so : (by : By) (node : ℕ) (stage : Fencing) (trail : Trail) → made_at by node stage trail → left_at stage ≡ 0 → IsTrue (answers_last trail.turns)
+answers_so by node Begins trail made over = absurd (omega arith)
+answers_so by node (Tells fenced) trail made over = absurd (omega arith)
+answers_so by node Ended trail ended over = by_fence ended.incarnation ended.fenced
+  where
+    by_fence : (shut : Option ℕ) → HasFenced node shut ended.since → IsTrue (answers_last trail.turns)
+    by_fence (Some inc) (place, begun) = subst (λ (ts : List Turn). IsTrue (answers_last ts)) (sym (ended.turns ∙ ap (λ (ts : List Turn). ts ++ turn_at by node ended.before ended.front ended.act (Some ended.reply) ∷ []) begun)) refl
+    by_fence None (begun, none, made) = subst (λ (ts : List Turn). IsTrue (answers_last ts)) (sym (ended.turns ∙ ap (λ (ts : List Turn). ts ++ turn_at by node ended.before ended.front ended.act (Some ended.reply) ∷ []) begun)) refl
 
 pub sees_so : (by : By) (node : ℕ) (stage : Fencing) (trail : Trail) (seen : List DoorEntry) → made_at by node stage trail → SeesOwn by trail.turns seen → IsTrue (last_sees seen trail.turns)
 sees_so by node Begins trail seen none sees = subst (λ (ts : List Turn). IsTrue (last_sees seen ts)) (sym (ap (λ (t : Trail). t.turns) none)) refl

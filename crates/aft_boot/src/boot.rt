@@ -4,6 +4,7 @@ ghost use Rattle.std.specs.Prelude.{◌≡◌, ◌≢◌, ◌≤◌, ◌<◌, �
 ghost use Rattle.aft_boot.specs.Booted.{BeginsWith, Made, MayCall, MayEnd, may_close, told_fault};
 ghost use Rattle.aft_boot.specs.BootView.{left_of, next_of};
 ghost use Rattle.aft_keeper.specs.Cause.{HasCause};
+ghost use Rattle.aft_lines.specs.LineCourse.{answers_last};
 ghost use Rattle.aft_lines.specs.LineView.{LineView};
 ghost use Rattle.aft_model.specs.DoorKnowledge.{is_open};
 ghost use Rattle.aft_model.specs.declared.caller.Hold.{Hold};
@@ -117,13 +118,18 @@ impl Boot {
 
     /// What stands of its line, by the turns that it has made: they are a beginning of a start's course, made rightly, and answer
     /// nothing before the last. Once it is over they are the whole course, and what is answered has its cause. A turn at the node
-    /// has seen at the door what it asks.
+    /// has seen at the door what it asks. Whatever its last turn has seen there, one that is over has answered by its last turn and
+    /// by no other, and one that isn't over has a turn left.
     pub fn so_far(&self)
         ensures goes { (hold : Hold) (capacity : ℕ) (trail : Trail) (view : LineView) → Made self.now trail → RanSo (commands.Start self.now.node) hold capacity trail view → GoesRightly view }
         ensures unanswered { (hold : Hold) (capacity : ℕ) (trail : Trail) (view : LineView) → Made self.now trail → RanSo (commands.Start self.now.node) hold capacity trail view → 1 ≤ left_of self.now → IsUnanswered view }
         ensures ends { (hold : Hold) (capacity : ℕ) (trail : Trail) (view : LineView) → Made self.now trail → RanSo (commands.Start self.now.node) hold capacity trail view → next_of self.now ≡ places.Done → HasLooked trail view → EndsRightly view }
+        ensures answers { (trail : Trail) → Made self.now trail → next_of self.now ≡ places.Done → IsTrue (answers_last trail.turns) }
+        ensures going { next_of self.now ≢ places.Done → 1 ≤ left_of self.now }
         ensures sees { (trail : Trail) (seen : List DoorEntry) → Made self.now trail → SeesOwn self.now.by trail.turns seen → BeginsWith trail.look seen → IsTrue (last_sees seen trail.turns) }
-    {}
+    {
+        let _ = &self.stage;
+    }
 }
 
 /// How many turns are left at most where a scan has listed so many names: a page of 64 names each, and the last one.

@@ -19,6 +19,7 @@ use Rattle.aft_model.proofs.Growth.{all_implied, given_grows}
 use Rattle.aft_lines.specs.Advance.{is_led_to_end}
 use Rattle.aft_lines.specs.Causes.{Caused}
 use Rattle.aft_lines.specs.LegalTrace.{is_clock_time, named_node, stands_at, turn_words}
+use Rattle.aft_lines.specs.LineCourse.{answers_last}
 use Rattle.aft_lines.specs.LineView.{LineView, ends_of, last_front}
 use Rattle.aft_lines.specs.Lines.{node_numbers}
 use Rattle.aft_lines.specs.Makes.{makes}
@@ -50,6 +51,19 @@ done_is node (Releases a uuid outcome) done P is = absurd cc
 done_is node (Doubts a reply) done P is = absurd cc
 done_is node (Ends a uuid outcome) done P is = absurd cc
 done_is node (ShutOut a) done P is = absurd cc
+
+-- and any other has a turn left
+pub going_so : (node : ℕ) (stage : Stage) → (next_at node stage ≡ places.Done → ⊥) → 1 ≤ left_at stage
+going_so node Ended going = absurd (going refl)
+going_so node Begins going = omega arith
+going_so node (Settles a r values) going = omega arith
+going_so node (Stores a r values count) going = omega arith
+going_so node (Failed a r) going = omega arith
+going_so node (Recorded a r) going = omega arith
+going_so node (Releases a uuid outcome) going = omega arith
+going_so node (Doubts a reply) going = omega arith
+going_so node (Ends a uuid outcome) going = omega arith
+going_so node (ShutOut a) going = omega arith
 
 -- ---- each turn
 
@@ -223,6 +237,10 @@ module _ (clock : ℕ) (by : By) (hold : Hold) (aborts : Bool) where
     ends_so stage made timely done looked =
         let over = done_is hold.node stage done (λ s. made_at clock by hold aborts s trail) made in
         ends_over clock hold aborts capacity trail view ran by timely looked over.0 over.1
+
+  -- of one that is over the last turn alone answers, whatever it has seen
+  pub answers_so : (stage : Stage) (trail : Trail) → made_at clock by hold aborts stage trail → next_at hold.node stage ≡ places.Done → IsTrue (answers_last trail.turns)
+  answers_so stage trail made done = (done_is hold.node stage done (λ s. made_at clock by hold aborts s trail) made).0.answers
 
   pub sees_so : (stage : Stage) (trail : Trail) (seen : List DoorEntry) → made_at clock by hold aborts stage trail → SeesOwn by trail.turns seen → IsTrue (last_sees seen trail.turns)
   sees_so stage trail seen made own = by_come (comes_so stage trail made)

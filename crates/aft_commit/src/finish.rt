@@ -2,13 +2,14 @@
 
 ghost use Rattle.std.specs.Option.{ForSome};
 ghost use Rattle.std.specs.List.{list_all};
-ghost use Rattle.std.specs.Prelude.{◌≡◌, ◌≤◌, ◌<◌, ◌++◌, ℕ, IsTrue, List, false, true};
+ghost use Rattle.std.specs.Prelude.{◌≡◌, ◌≢◌, ◌≤◌, ◌<◌, ◌++◌, ℕ, IsTrue, List, false, true};
 ghost use Rattle.aft_commit.specs.Asks.{KnewUnused, MayCall, MayEnd, may_close, may_put};
 ghost use Rattle.aft_commit.specs.Made.{Made, command_of, turn_reads};
 ghost use Rattle.aft_commit.specs.Told.{entries_by};
 ghost use Rattle.aft_commit.specs.View.{IsStorable, ReadsClock, has_failed, left_of, next_of};
 ghost use Rattle.aft_keeper.specs.Cause.{HasCause};
 ghost use Rattle.aft_lines.specs.LegalTrace.{is_clock_time};
+ghost use Rattle.aft_lines.specs.LineCourse.{answers_last};
 ghost use Rattle.aft_lines.specs.LineView.{LineView};
 ghost use Rattle.aft_model.specs.DoorKnowledge.{is_open};
 ghost use Rattle.aft_model.specs.NodeSights.{own_entries};
@@ -176,11 +177,14 @@ impl Finish {
     /// rightly, and answer nothing before the last. Once it is over they are the whole course, and what is answered has its cause,
     /// of a line whose clock is the one that the first turn read, where it tells one. A turn at the node has seen at the door what
     /// it asks, and a commit that was fixed read that clock. Where its attempt's incarnation knew before the line that the UUID was
-    /// unused, it knows of each put what it must.
+    /// unused, it knows of each put what it must. Whatever its last turn has seen at the door, one that is over has answered by its
+    /// last turn and by no other, and one that isn't over has a turn left.
     pub fn so_far(&self)
         ensures goes { (clock capacity : ℕ) (trail : Trail) (view : LineView) → Made clock self.now trail → RanSo (command_of self.now.aborts) self.now.hold capacity trail view → (next_of self.now ≡ places.Done → HasLooked trail view) → GoesRightly view }
         ensures unanswered { (clock capacity : ℕ) (trail : Trail) (view : LineView) → Made clock self.now trail → RanSo (command_of self.now.aborts) self.now.hold capacity trail view → 1 ≤ left_of self.now → IsUnanswered view }
         ensures ends { (clock capacity : ℕ) (trail : Trail) (view : LineView) → Made clock self.now trail → RanSo (command_of self.now.aborts) self.now.hold capacity trail view → IsTrue (is_clock_time view.clock clock) → next_of self.now ≡ places.Done → HasLooked trail view → EndsRightly view }
+        ensures answers { (clock : ℕ) (trail : Trail) → Made clock self.now trail → next_of self.now ≡ places.Done → IsTrue (answers_last trail.turns) }
+        ensures going { next_of self.now ≢ places.Done → 1 ≤ left_of self.now }
         ensures sees { (clock : ℕ) (trail : Trail) (seen : List DoorEntry) → Made clock self.now trail → SeesOwn self.now.by trail.turns seen → IsTrue (last_sees seen trail.turns) }
         ensures knows { (clock : ℕ) (trail : Trail) (before since : List DoorEntry) → Made clock self.now trail → KnewUnused self.now before → own_entries self.now.by since ≡ entries_by self.now.by trail.turns → may_put self.now (before ++ since) }
         ensures reads { (clock : ℕ) (trail : Trail) → Made clock self.now trail → IsTrue (list_all (turn_reads clock) trail.turns) }

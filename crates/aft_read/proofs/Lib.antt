@@ -5,4 +5,4 @@ mod Led
 mod Once
 pub mod Picked
 mod Reading
-mod Stands
+pub mod Stands

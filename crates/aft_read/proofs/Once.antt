@@ -42,6 +42,12 @@ pub right_at : (by : By) (hold : Hold) (key : List ℕ) (before : List NodeEntry
     → IsTrue (is_right (commands.Get key) hold (turn_at by hold before front act answer))
 right_at by hold key before front act answer made carries speaks = and_from _ _ (and_from _ _ (and_from _ _ made carries) (eq-eqb hold.node hold.node refl)) speaks
 
+-- its one turn answers
+pub some_answer : (capacity : ℕ) (hold : Hold) (key : List ℕ) (before : List NodeEntry) (act : NodeAct) (answer : Option Reply) → AnswersAtOnce capacity hold key before act answer → IsTrue (is_some answer)
+some_answer capacity hold key before act answer (inl (did, told)) = subst (λ (o : Option Reply). IsTrue (is_some o)) (sym told) refl
+some_answer capacity hold key before act answer (inr (inl (did, some, told, ours))) = some
+some_answer capacity hold key before act answer (inr (inr (a, what, picks, some, did, told))) = some
+
 module _ (capacity : ℕ) (by : By) (hold : Hold) (key : List ℕ) (before : List NodeEntry) (front : ℕ) (view : LineView) (cache : view.settings.cache ≡ capacity) where
   -- the line whose one turn did this
   abbrev ran : NodeAct → Option Reply → LineView
@@ -66,11 +72,6 @@ module _ (capacity : ℕ) (by : By) (hold : Hold) (key : List ℕ) (before : Lis
       subst (λ (x : NodeAct). IsTrue (is_right (commands.Get key) hold (turn_at by hold before front x answer))) (sym did)
       (right_at by hold key before front (acts.Select a key what) answer refl (bytes_eq-refl key)
       (subst (λ (o : Option Attempt). IsTrue (act_of o (acts.Select a key what))) (sym picks.held) (same_itself a)))
-
-  some_answer : (act : NodeAct) (answer : Option Reply) → AnswersAtOnce capacity hold key before act answer → IsTrue (is_some answer)
-  some_answer act answer (inl (did, told)) = subst (λ (o : Option Reply). IsTrue (is_some o)) (sym told) refl
-  some_answer act answer (inr (inl (did, some, told, ours))) = some
-  some_answer act answer (inr (inr (a, what, picks, some, did, told))) = some
 
   -- ---- its cause
 
@@ -145,7 +146,7 @@ module _ (capacity : ℕ) (by : By) (hold : Hold) (key : List ℕ) (before : Lis
   pub ends : (act : NodeAct) (answer : Option Reply) → AnswersAtOnce capacity hold key before act answer → EndsRightly (ran act answer)
   ends act answer at_once = record {
     leads = leads act answer at_once;
-    answers = some_answer act answer at_once;
+    answers = some_answer capacity hold key before act answer at_once;
     caused = λ reply is. caused_so act answer reply at_once is;
   }
 

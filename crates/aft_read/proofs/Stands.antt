@@ -60,6 +60,13 @@ nothing_left node (Fetches a key id) e = absurd cc
 nothing_left node (Comes a key id got place) e = absurd cc
 nothing_left node Ended e = refl
 
+-- and any other has one
+pub going_so : (node : ℕ) (stage : Stage) → (next_at node stage ≡ places.Done → ⊥) → 1 ≤ left_at stage
+going_so node (Begins key) going = omega arith
+going_so node (Fetches a key id) going = omega arith
+going_so node (Comes a key id got place) going = omega arith
+going_so node Ended going = absurd (going refl)
+
 module _ (capacity : ℕ) (by : By) (hold : Hold) (key : List ℕ) where
   of_held : (a : Attempt) → hold.attempt ≡ Some a → IsTrue (is_held_attempt hold.attempt a)
   of_held a held = subst (λ (o : Option Attempt). IsTrue (is_held_attempt o a)) (sym held) (same_itself a)
@@ -79,6 +86,12 @@ module _ (capacity : ℕ) (by : By) (hold : Hold) (key : List ℕ) where
   told_some a id (Came value) place before act answer (inl (kept, did, told)) = subst (λ (o : Option Reply). IsTrue (is_some o)) (sym told) refl
   told_some a id (Refused reply) place before act answer (inl (did, told)) = subst (λ (o : Option Reply). IsTrue (is_some o)) (sym told) refl
   told_some a id got place before act answer (inr (left, did, told)) = subst (λ (o : Option Reply). IsTrue (is_some o)) (sym told) refl
+
+  -- which alone answers
+  last_answers : (a : Attempt) (id : TxnId) (first_before : List NodeEntry) (first_front : ℕ) (got : Got) (place : ℕ) (look : List DoorEntry) (more : List Turn) (before : List NodeEntry) (front : ℕ) (act : NodeAct) (answer : Option Reply) → Fetched a key id got place look more → IsTrue (is_some answer)
+      → IsTrue (answers_last (turn_at by hold first_before first_front (acts.Select a key (picked.Fetch id)) None ∷ more ++ turn_at by hold before front act answer ∷ []))
+  last_answers a id first_before first_front got place look more before front act answer (inl (none, was)) some = subst (λ (ts : List Turn). IsTrue (answers_last (turn_at by hold first_before first_front (acts.Select a key (picked.Fetch id)) None ∷ ts ++ turn_at by hold before front act answer ∷ []))) (sym none) some
+  last_answers a id first_before first_front got place look more before front act answer (inr (shown, words, one, came)) some = subst (λ (ts : List Turn). IsTrue (answers_last (turn_at by hold first_before first_front (acts.Select a key (picked.Fetch id)) None ∷ ts ++ turn_at by hold before front act answer ∷ []))) (sym one) some
 
   -- ---- a get that goes on
 
@@ -124,10 +137,6 @@ module _ (capacity : ℕ) (by : By) (hold : Hold) (key : List ℕ) where
         let right = right_and key hold (turn_at by hold first_before first_front (acts.Select a key (picked.Fetch id)) None) (more ++ turn_at by hold before front act answer ∷ []) (right_at by hold key first_before first_front (acts.Select a key (picked.Fetch id)) None refl (bytes_eq-refl key) (of_held a picks.held)) (between a id got place look more (turn_at by hold before front act answer ∷ []) fetched last) in
         record { leads = led_is_some (position_of ran) (led_so fetched closes); right = right }
 
-    answers_so : Fetched a key id got place look more → IsTrue (is_some answer) → IsTrue (answers_last all_turns)
-    answers_so (inl (none, was)) some = subst (λ (ts : List Turn). IsTrue (answers_last (turn_at by hold first_before first_front (acts.Select a key (picked.Fetch id)) None ∷ ts ++ turn_at by hold before front act answer ∷ []))) (sym none) some
-    answers_so (inr (shown, words, one, came)) some = subst (λ (ts : List Turn). IsTrue (answers_last (turn_at by hold first_before first_front (acts.Select a key (picked.Fetch id)) None ∷ ts ++ turn_at by hold before front act answer ∷ []))) (sym one) some
-
     last_answer : Fetched a key id got place look more → end_answer all_turns ≡ answer
     last_answer (inl (none, was)) = ap (λ (ts : List Turn). end_answer (turn_at by hold first_before first_front (acts.Select a key (picked.Fetch id)) None ∷ ts ++ turn_at by hold before front act answer ∷ [])) none
     last_answer (inr (shown, words, one, came)) = ap (λ (ts : List Turn). end_answer (turn_at by hold first_before first_front (acts.Select a key (picked.Fetch id)) None ∷ ts ++ turn_at by hold before front act answer ∷ [])) one
@@ -135,7 +144,7 @@ module _ (capacity : ℕ) (by : By) (hold : Hold) (key : List ℕ) where
     fetch_ends : (rest : List DoorEntry) → take (last_front ran) view.seen ≡ look ++ rest → Fetched a key id got place look more → Closes a key id place got before act answer → EndsRightly ran
     fetch_ends rest begins fetched closes = record {
       leads = led_so fetched closes;
-      answers = answers_so fetched (told_some a id got place before act answer closes);
+      answers = last_answers a id first_before first_front got place look more before front act answer fetched (told_some a id got place before act answer closes);
       caused = λ reply is. caused_so capacity by hold key a id first_before first_front picks view cache before front act answer look rest more got place reply begins fetched closes (sym (last_answer fetched) ∙ is);
     }
 
@@ -231,6 +240,16 @@ module _ (capacity : ℕ) (by : By) (hold : Hold) (key : List ℕ) where
       begins =
           subst (λ (ts : List Turn). take (last_front (with_words (commands.Get key) hold ts view)) view.seen ≡ ended.since.look ++ looked.0) (ran.turns ∙ ended_turns trail ended)
           (looked.1 ∙ ap (λ (l : List DoorEntry). l ++ looked.0) ended.look)
+
+  -- of one that is over the last turn alone answers, whatever it has seen
+  pub answers_so : (stage : Stage) (trail : Trail) → made_at capacity by hold key stage trail → left_at stage ≡ 0 → IsTrue (answers_last trail.turns)
+  answers_so (Begins its) trail made none = absurd (omega arith)
+  answers_so (Fetches a its id) trail made none = absurd (omega arith)
+  answers_so (Comes a its id got place) trail made none = absurd (omega arith)
+  answers_so Ended trail (inl it) none = subst (λ (ts : List Turn). IsTrue (answers_last ts)) (sym it.turns) (once.some_answer capacity hold key it.before it.act it.answer it.answers)
+  answers_so Ended trail (inr ended) none =
+      subst (λ (ts : List Turn). IsTrue (answers_last ts)) (sym (ended_turns trail ended))
+      (last_answers ended.attempt ended.id ended.came.picked.before ended.came.picked.front ended.got ended.place ended.since.look ended.came.more ended.before ended.front ended.act ended.answer ended.came.fetched (told_some ended.attempt ended.id ended.got ended.place ended.before ended.act ended.answer ended.closes))
 
   pub sees_so : (stage : Stage) (trail : Trail) (seen : List DoorEntry) → made_at capacity by hold key stage trail → SeesOwn by trail.turns seen → IsTrue (last_sees seen trail.turns)
   sees_so (Begins its) trail seen (same, none) sees = subst (λ (ts : List Turn). IsTrue (last_sees seen ts)) (sym (ap (λ (t : Trail). t.turns) none)) refl

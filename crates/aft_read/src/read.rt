@@ -1,8 +1,9 @@
 //! A get.
 
 ghost use Rattle.std.specs.Option.{ForSome};
-ghost use Rattle.std.specs.Prelude.{◌≡◌, ◌≤◌, ◌<◌, ℕ, IsTrue, List};
+ghost use Rattle.std.specs.Prelude.{◌≡◌, ◌≢◌, ◌≤◌, ◌<◌, ℕ, IsTrue, List};
 ghost use Rattle.aft_keeper.specs.Cause.{HasCause};
+ghost use Rattle.aft_lines.specs.LineCourse.{answers_last};
 ghost use Rattle.aft_lines.specs.LineView.{LineView};
 ghost use Rattle.aft_model.specs.DoorKnowledge.{is_open};
 ghost use Rattle.aft_model.specs.declared.door.DoorEntry.{DoorEntry};
@@ -133,11 +134,14 @@ impl Read {
 
     /// What stands of its line, by the turns that it has made: they are a beginning of a get's course, made rightly, and answer
     /// nothing before the last. Once it is over they are the whole course, and what is answered has its cause. A turn at the node
-    /// has seen at the door what it asks.
+    /// has seen at the door what it asks. Whatever its last turn has seen there, one that is over has answered by its last turn and
+    /// by no other, and one that isn't over has a turn left.
     pub fn so_far(&self)
         ensures goes { (capacity : ℕ) (trail : Trail) (view : LineView) → Made capacity self.now trail → RanSo (commands.Get self.now.key) self.now.hold capacity trail view → GoesRightly view }
         ensures unanswered { (capacity : ℕ) (trail : Trail) (view : LineView) → Made capacity self.now trail → RanSo (commands.Get self.now.key) self.now.hold capacity trail view → 1 ≤ left_of self.now → IsUnanswered view }
         ensures ends { (capacity : ℕ) (trail : Trail) (view : LineView) → Made capacity self.now trail → RanSo (commands.Get self.now.key) self.now.hold capacity trail view → next_of self.now ≡ places.Done → HasLooked trail view → EndsRightly view }
+        ensures answers { (capacity : ℕ) (trail : Trail) → Made capacity self.now trail → next_of self.now ≡ places.Done → IsTrue (answers_last trail.turns) }
+        ensures going { next_of self.now ≢ places.Done → 1 ≤ left_of self.now }
         ensures sees { (capacity : ℕ) (trail : Trail) (seen : List DoorEntry) → Made capacity self.now trail → SeesOwn self.now.by trail.turns seen → IsTrue (last_sees seen trail.turns) }
     {}
 }

@@ -1,4 +1,4 @@
-use Rattle.aft_begin.proofs.Stands.{ends_so, gives_so, goes_so, knows_so, sees_so, unanswered_so}
+use Rattle.aft_begin.proofs.Stands.{answers_so, ends_so, gives_so, goes_so, going_so, knows_so, sees_so, unanswered_so}
 use Rattle.aft_begin.proofs.claiming.Claiming.so_far.Goals as goal
 
 pub returns-clause-goes : goal.returns-clause-goes
@@ -9,6 +9,12 @@ returns-clause-unanswered c hold capacity trail view made ran left = unanswered_
 
 pub returns-clause-ends : goal.returns-clause-ends
 returns-clause-ends c hold capacity trail view made ran done looked = ends_so c.args.self.now.aim c.args.self.now.by c.args.self.now.node c.args.self.now.uuid hold capacity trail view ran c.args.self.now.stage made done looked
+
+pub returns-clause-answers : goal.returns-clause-answers
+returns-clause-answers c trail made done = answers_so c.args.self.now.aim c.args.self.now.by c.args.self.now.node c.args.self.now.uuid c.args.self.now.stage trail made done
+
+pub returns-clause-going : goal.returns-clause-going
+returns-clause-going c going = going_so c.args.self.now.aim c.args.self.now.node c.args.self.now.stage going
 
 pub returns-clause-gives : goal.returns-clause-gives
 returns-clause-gives c trail made done = gives_so c.args.self.now.aim c.args.self.now.by c.args.self.now.node c.args.self.now.uuid c.args.self.now.stage trail made done
