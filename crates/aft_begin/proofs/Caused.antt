@@ -40,6 +40,7 @@ use Rattle.aft_lines.specs.CourseWords.{caller_of}
 use Rattle.aft_lines.specs.LineView.{LineView, has_left, last_front, node_turn_in}
 use Rattle.aft_lines.specs.Turns.{Turn}
 use Rattle.law_attempts.proofs.Newest.{serving_newest}
+use Rattle.aft_turns.proofs.Looked.{looked_at}
 use Rattle.aft_turns.proofs.Views.{with_words}
 use Rattle.aft_turns.proofs.Written.{marker_written, record_written}
 use Rattle.aft_begin.specs.declared.aim.Aim.{Aim}
@@ -52,7 +53,6 @@ use Rattle.aft_begin.specs.Seen.{AreWords, Tells, ToldSo, is_short, name_of, rea
 use Rattle.aft_begin.specs.View.{asks}
 use Rattle.aft_begin.specs.Way.{Claimed, Deleted, DeletedSo, FitsWay, IsRefused, IsShutOut, IsTaken, IsUnclaimed, IsUnknown, IsUnused, LookedForMarker, LookedForRecord, MayTell, MustLetGo, ShowsShort, Unclaimed, Way, claim_act, look_act, release_act, release_turns, way_turns}
 use Rattle.aft_begin.proofs.Aims.{aims_apart}
-use Rattle.aft_begin.proofs.Counted.{looked_at}
 use Rattle.aft_begin.proofs.Shown.{found, keeps_marker, keeps_record, short_shown, shows_it, unread}
 
 -- what was found unused is known, whatever follows

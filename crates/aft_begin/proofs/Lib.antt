@@ -1,7 +1,6 @@
 pub mod Aims
 pub mod Asking
 pub mod Caused
-pub mod Counted
 pub mod DoorSteps
 pub mod Leads
 pub mod NodeSteps

@@ -31,12 +31,12 @@ use Rattle.aft_turns.specs.Stands.{EndsRightly, GoesRightly, HasLooked, IsUnansw
 use Rattle.aft_turns.specs.Trail.{Trail}
 use Rattle.aft_turns.specs.declared.turn.Where.TheVariants as places
 use Rattle.aft_turns.proofs.Closed.{led_is_some}
+use Rattle.aft_turns.proofs.Looked.{looked_at}
 use Rattle.aft_turns.proofs.Views.{by_words, with_words}
 use Rattle.aft_boot.specs.CrashView.{left_at, next_at}
 use Rattle.aft_boot.specs.Crashed.{GoesDown, HasFenced, made_at, turn_at}
 use Rattle.aft_boot.specs.declared.fencing.Fencing.{Fencing}
 use Rattle.aft_boot.specs.declared.fencing.Fencing.TheVariants.{Begins, Ended, Tells}
-use Rattle.aft_boot.proofs.Looked.{looked_at}
 
 -- ---- who is up, and who was fenced
 

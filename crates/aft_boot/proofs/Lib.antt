@@ -7,7 +7,6 @@ pub mod DoorTurns
 pub mod Entries
 pub mod Leading
 pub mod Led
-pub mod Looked
 pub mod NodeTurns
 pub mod PageRuns
 pub mod Pairs

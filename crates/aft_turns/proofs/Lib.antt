@@ -1,3 +1,4 @@
 pub mod Closed
+pub mod Looked
 pub mod Views
 pub mod Written
