@@ -17,31 +17,24 @@ use Rattle.aft_ledger.specs.Turns.{commit_of}
 use Rattle.aft_lines.specs.CausesAttempts.{is_ready, passes_end, state_in}
 use Rattle.aft_lines.specs.LineView.{is_served}
 use Rattle.law_attempts.proofs.Standing.{same_itself}
+use Rattle.aft_turns.proofs.Found.{found_so}
 
 module _ (a : Attempt) (before : List NodeEntry) (serve : IsTrue (serves a.inc (node_state before))) where
-  -- a test of the attempt in the service that its node is in
-  pub found_so : (test : Attempt → Service → Bool) → ((s : Service) → service before ≡ Some s → IsTrue (test a s)) → IsTrue (is_served test (Some a) (service before))
-  found_so test passes =
-      let is = serving a.inc (node_state before) serve in
-      let of : service before ≡ Some is.0 = ap service_in is.1 in
-      subst (λ (o : Option Service). IsTrue (is_served test (Some a) o)) (sym of)
-      (and_from (a.inc == is.0.inc) (test a is.0) (subst (λ (q : NodeState). IsTrue (serves a.inc q)) is.1 serve) (passes is.0 of))
-
   -- it is in doubt
   pub doubted_so : IsTrue (is_in_doubt (attempt_state a (part before))) → IsTrue (is_served (λ b s. is_in_doubt (state_in b s)) (Some a) (service before))
-  doubted_so is = found_so (λ b s. is_in_doubt (state_in b s)) (λ s of. subst (λ (o : Option Service). IsTrue (is_in_doubt (attempt_state a (part_in o)))) of is)
+  doubted_so is = found_so a before serve (λ b s. is_in_doubt (state_in b s)) (λ s of. subst (λ (o : Option Service). IsTrue (is_in_doubt (attempt_state a (part_in o)))) of is)
 
   module _ (runs : IsTrue (is_running (attempt_state a (part before)))) (read : IsTrue (open_reads a (part before) == 0)) where
     -- it is ready
     pub ready_so : (test : ℕ → Bool) → IsTrue (test (length (buffer a (part before)))) → IsTrue (is_served (is_ready test) (Some a) (service before))
     ready_so test passes =
-        found_so (is_ready test) (λ s of.
+        found_so a before serve (is_ready test) (λ s of.
         subst (λ (o : Option Service). IsTrue (is_running (attempt_state a (part_in o)) && open_reads a (part_in o) == 0 && test (length (buffer a (part_in o))))) of (and_from _ _ (and_from _ _ runs read) passes))
 
     -- but its commit would pass the last time
     pub passed_so : (now : ℕ) → IsTrue (not (length (buffer a (part before)) == 0)) → is_time (commit_of now a before).id.time ≡ false → IsTrue (is_served (λ b s. is_ready (λ count. not (count == 0)) b s && passes_end (Some now) b s) (Some a) (service before))
     passed_so now some late =
-        found_so (λ b s. is_ready (λ count. not (count == 0)) b s && passes_end (Some now) b s) (λ s of.
+        found_so a before serve (λ b s. is_ready (λ count. not (count == 0)) b s && passes_end (Some now) b s) (λ s of.
         subst (λ (o : Option Service). IsTrue ((is_running (attempt_state a (part_in o)) && open_reads a (part_in o) == 0 && not (length (buffer a (part_in o)) == 0)) && not (is_time (commit_time now (reads a (part_in o)) (written_keys (buffer a (part_in o))) (known_of o))))) of
         (and_from _ _ (and_from _ _ (and_from _ _ runs read) some) (ap not late)))
 

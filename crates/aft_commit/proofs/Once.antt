@@ -20,10 +20,10 @@ use Rattle.aft_lines.specs.CausesAttempts.{ends_attempt}
 use Rattle.aft_lines.specs.LegalTrace.{is_clock_time}
 use Rattle.aft_lines.specs.LineView.{LineView, is_commit, is_served}
 use Rattle.aft_node.specs.Committing.{end_refusal, finish_refusal, open_refusal}
+use Rattle.aft_turns.proofs.Found.{found_so}
 use Rattle.aft_turns.proofs.Views.{with_words}
 use Rattle.aft_commit.specs.Made.{command_of}
 use Rattle.aft_commit.specs.Told.{AnswersAtOnce, turn_at}
-use Rattle.aft_commit.proofs.Found.{found_so}
 
 -- ---- commits and aborts alike
 

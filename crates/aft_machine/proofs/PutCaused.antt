@@ -28,9 +28,9 @@ use Rattle.law_attempts.proofs.Acts.{buffer-snoc}
 use Rattle.law_attempts.proofs.Buffers.{buffered_with}
 use Rattle.law_attempts.proofs.Standing.{same_itself}
 use Rattle.aft_node.specs.Held.{get_refusal, running_refusal}
+use Rattle.aft_turns.proofs.Found.{found_doing}
 use Rattle.aft_turns.proofs.Views.{with_words}
 use Rattle.aft_read.specs.Made.{turn_at}
-use Rattle.aft_read.proofs.Picked.{found_so}
 use Rattle.aft_machine.specs.PutMade.{Puts, Runs}
 
 -- a service has an entry more behind one that leaves it as it is
@@ -69,11 +69,11 @@ module _ (by : By) (hold : Hold) (key value : List ℕ) (before : List NodeEntry
   refused_in a reply IsGone held serving at is =
       subst is_caused (one_reply replies.NoTransaction reply is)
       (subst (λ (o : Option Attempt). IsTrue (is_none o || is_served (λ b s. is_gone (state_in b s)) o (service before))) (sym held)
-      (or_right false _ (found_so (λ b s. is_gone (state_in b s)) is_gone a before (and_from _ _ serving (subst (λ (q : AttemptState). IsTrue (is_gone q)) (sym at) refl)) (λ s of gone. gone))))
+      (or_right false _ (found_doing (λ b s. is_gone (state_in b s)) is_gone a before (and_from _ _ serving (subst (λ (q : AttemptState). IsTrue (is_gone q)) (sym at) refl)) (λ s of gone. gone))))
   refused_in a reply state held serving at is =
       subst is_caused (one_reply replies.Committing reply is)
       (subst (λ (o : Option Attempt). IsTrue (is_served (λ b s. is_refused_by (state_in b s) (commands.Put key value)) o (service before))) (sym held)
-      (found_so (λ b s. is_refused_by (state_in b s) (commands.Put key value)) (λ q. not (is_gone q || is_running q)) a before (and_from _ _ serving (subst (λ (q : AttemptState). IsTrue (not (is_gone q || is_running q))) (sym at) refl)) (λ s of refuses. refuses)))
+      (found_doing (λ b s. is_refused_by (state_in b s) (commands.Put key value)) (λ q. not (is_gone q || is_running q)) a before (and_from _ _ serving (subst (λ (q : AttemptState). IsTrue (not (is_gone q || is_running q))) (sym at) refl)) (λ s of refuses. refuses)))
 
   refused_down : (a : Attempt) (reply : Reply) → hold.attempt ≡ Some a → a.node ≡ hold.node → serves a.inc (node_state before) ≡ false → Some (replies.NodeDown hold.node a.inc) ≡ Some reply → is_caused reply
   refused_down a reply held here down is =
@@ -107,7 +107,7 @@ module _ (by : By) (hold : Hold) (key value : List ℕ) (before : List NodeEntry
   too_many : (a : Attempt) → Runs hold a before → IsFalse (may_put a key before) → is_caused replies.TooManyKeys
   too_many a runs full =
       subst (λ (o : Option Attempt). IsTrue (is_served is_full_for o (service before))) (sym runs.held)
-      (found_so is_full_for is_running a before runs.running (λ s of running. and_from _ _ running (ap not (sym (room_in a s of) ∙ full))))
+      (found_doing is_full_for is_running a before runs.running (λ s of running. and_from _ _ running (ap not (sym (room_in a s of) ∙ full))))
 
   -- the line's entry, had it done this
   abbrev entry_did : NodeAct → NodeEntry
@@ -129,7 +129,7 @@ module _ (by : By) (hold : Hold) (key value : List ℕ) (before : List NodeEntry
   stored : (a : Attempt) → Runs hold a before → IsTrue (may_put a key before) → act ≡ acts.Put a key value → is_caused replies.Stored
   stored a runs room did =
       subst (λ (o : Option Attempt). IsTrue (is_served has_put_it o (service before))) (sym runs.held)
-      (found_so has_put_it is_running a before runs.running (λ s of running. and_from _ _ (and_from _ _ running (sym (room_in a s of) ∙ room)) (kept a s did of)))
+      (found_doing has_put_it is_running a before runs.running (λ s of running. and_from _ _ (and_from _ _ running (sym (room_in a s of) ∙ room)) (kept a s did of)))
 
   pub caused_so : (reply : Reply) → Puts hold key value before act answer → answer ≡ Some reply → is_caused reply
   caused_so reply (inl (did, told)) is = subst is_caused (one_reply replies.NoMemory reply (sym told ∙ is)) refl

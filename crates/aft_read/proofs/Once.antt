@@ -33,9 +33,10 @@ use Rattle.law_attempts.proofs.Standing.{same_itself}
 use Rattle.aft_node.specs.Held.{get_refusal, running_refusal}
 use Rattle.aft_turns.specs.Stands.{EndsRightly, GoesRightly, is_right, last_sees}
 use Rattle.aft_turns.proofs.Closed.{led_is_some}
+use Rattle.aft_turns.proofs.Found.{found_doing}
 use Rattle.aft_turns.proofs.Views.{with_words}
 use Rattle.aft_read.specs.Made.{AnswersAtOnce, Picks, turn_at}
-use Rattle.aft_read.proofs.Picked.{found_so, picked_so}
+use Rattle.aft_read.proofs.Picked.{picked_so}
 
 -- a turn at the get's node that a get makes, of this key and of the attempt that is held
 pub right_at : (by : By) (hold : Hold) (key : List ℕ) (before : List NodeEntry) (front : ℕ) (act : NodeAct) (answer : Option Reply) → IsTrue (gets_at_node act) → IsTrue (node_words (commands.Get key) act) → IsTrue (act_of hold.attempt act)
@@ -98,11 +99,11 @@ module _ (capacity : ℕ) (by : By) (hold : Hold) (key : List ℕ) (before : Lis
     refused_in a reply IsGone held serving at is =
         subst is_caused (one_reply replies.NoTransaction reply is)
         (subst (λ (o : Option Attempt). IsTrue (is_none o || is_served (λ b s. is_gone (state_in b s)) o (service before))) (sym held)
-        (or_right false _ (found_so (λ b s. is_gone (state_in b s)) is_gone a before (and_from _ _ serving (subst (λ (q : AttemptState). IsTrue (is_gone q)) (sym at) refl)) (λ s of gone. gone))))
+        (or_right false _ (found_doing (λ b s. is_gone (state_in b s)) is_gone a before (and_from _ _ serving (subst (λ (q : AttemptState). IsTrue (is_gone q)) (sym at) refl)) (λ s of gone. gone))))
     refused_in a reply state held serving at is =
         subst is_caused (one_reply replies.Committing reply is)
         (subst (λ (o : Option Attempt). IsTrue (is_served (λ b s. is_refused_by (state_in b s) (commands.Get key)) o (service before))) (sym held)
-        (found_so (λ b s. is_refused_by (state_in b s) (commands.Get key)) (λ q. not (is_gone q || is_running q)) a before (and_from _ _ serving (subst (λ (q : AttemptState). IsTrue (not (is_gone q || is_running q))) (sym at) refl)) (λ s of refuses. refuses)))
+        (found_doing (λ b s. is_refused_by (state_in b s) (commands.Get key)) (λ q. not (is_gone q || is_running q)) a before (and_from _ _ serving (subst (λ (q : AttemptState). IsTrue (not (is_gone q || is_running q))) (sym at) refl)) (λ s of refuses. refuses)))
 
     refused_down : (a : Attempt) (reply : Reply) → hold.attempt ≡ Some a → a.node ≡ hold.node → serves a.inc (node_state before) ≡ false → Some (replies.NodeDown hold.node a.inc) ≡ Some reply → is_caused reply
     refused_down a reply held here down is =

@@ -1,22 +1,22 @@
 -- A pick of an attempt that runs, as the causes see it.
-use Rattle.std.proofs.Common.{◌≡◌, ℕ, Bool, ◌&&◌, List, [], ◌∷◌, refl, sym, ap, subst}
+use Rattle.std.proofs.Common.{◌≡◌, ℕ, Bool, ◌&&◌, List, [], ◌∷◌, refl, sym, subst}
 use Rattle.std.specs.Prelude.{IsTrue, Option, Some, option_map}
-use Rattle.std.proofs.lemmas.Bool.{and_from, and_parts, false≢true}
+use Rattle.std.proofs.lemmas.Bool.{and_from}
 use Rattle.aft_model.specs.declared.caller.Attempt.{Attempt}
 use Rattle.aft_model.specs.declared.caller.Hold.{Hold}
 use Rattle.aft_model.specs.declared.choice.Blocked.{Blocked}
 use Rattle.aft_model.specs.declared.choice.Picked.{Picked}
 use Rattle.aft_model.specs.declared.choice.Picked.TheVariants as picked
 use Rattle.aft_model.specs.declared.node.NodeEntry.{NodeEntry}
-use Rattle.aft_model.specs.Attempts.{AttemptState, attempt_state, is_running}
+use Rattle.aft_model.specs.Attempts.{attempt_state, is_running}
 use Rattle.aft_model.specs.NodeRules.{pick, same_picked}
-use Rattle.aft_model.specs.NodeState.{IsBooting, IsDown, IsServing, NodeState, Service, node_state, part, part_in, serves, service, service_in}
+use Rattle.aft_model.specs.NodeState.{Service, service}
 use Rattle.aft_model.specs.Replies.{same_blockers}
 use Rattle.aft_model.proofs.Ids.{same_id-refl}
 use Rattle.aft_model.proofs.Sights.{bytes_eq-refl}
-use Rattle.aft_ledger.specs.Turns.{is_doing}
 use Rattle.aft_lines.specs.LineView.{is_served}
 use Rattle.aft_read.specs.Made.{Picks}
+use Rattle.aft_turns.proofs.Found.{found_doing}
 
 blockers-refl : (blocked : List Blocked) → IsTrue (same_blockers blocked blocked)
 blockers-refl [] = refl
@@ -29,19 +29,6 @@ picked-refl (picked.Fetch id) = same_id-refl id
 picked-refl picked.Absent = refl
 picked-refl (picked.NoneFits blocked) = blockers-refl blocked
 
--- a test of an attempt that is doing something, in the service that its node is in
-pub found_so : (test : Attempt → Service → Bool) (does : AttemptState → Bool) (a : Attempt) (before : List NodeEntry) → IsTrue (is_doing does a before) → ((s : Service) → service before ≡ Some s → IsTrue (does (attempt_state a s.part)) → IsTrue (test a s)) → IsTrue (is_served test (Some a) (service before))
-found_so test does a before is passes =
-    by_state (node_state before) refl (and_parts (serves a.inc (node_state before)) (does (attempt_state a (part before))) is)
-  where
-    by_state : (state : NodeState) → node_state before ≡ state → IsTrue (serves a.inc (node_state before)) × IsTrue (does (attempt_state a (part before))) → IsTrue (is_served test (Some a) (service before))
-    by_state (IsServing s) e parts =
-        let of : service before ≡ Some s = ap service_in e in
-        subst (λ (o : Option Service). IsTrue (is_served test (Some a) o)) (sym of)
-        (and_from _ _ (subst (λ (q : NodeState). IsTrue (serves a.inc q)) e parts.0) (passes s of (subst (λ (o : Option Service). IsTrue (does (attempt_state a (part_in o)))) of parts.1)))
-    by_state IsDown e parts = absurd (false≢true (subst (λ (q : NodeState). IsTrue (serves a.inc q)) e parts.0))
-    by_state (IsBooting inc running) e parts = absurd (false≢true (subst (λ (q : NodeState). IsTrue (serves a.inc q)) e parts.0))
-
 -- whether an attempt runs and picks this in a service
 abbrev its_pick : ℕ → List ℕ → Picked → Attempt → Service → Bool
 its_pick capacity key what b serving = is_running (attempt_state b serving.part) && same_picked (pick capacity serving b key) what
@@ -50,7 +37,7 @@ its_pick capacity key what b serving = is_running (attempt_state b serving.part)
 pub picked_so : (capacity : ℕ) (hold : Hold) (key : List ℕ) (a : Attempt) (what : Picked) (before : List NodeEntry) → Picks capacity hold key a what before → IsTrue (is_served (λ b serving. is_running (attempt_state b serving.part) && same_picked (pick capacity serving b key) what) hold.attempt (service before))
 picked_so capacity hold key a what before picks =
     subst (λ (o : Option Attempt). IsTrue (is_served (its_pick capacity key what) o (service before))) (sym picks.held)
-    (found_so (its_pick capacity key what) is_running a before picks.running (λ s of runs. and_from _ _ runs (subst (λ (p : Picked). IsTrue (same_picked p what)) (sym (some_is (pick capacity s a key) what (subst (λ (o : Option Service). option_map (λ t. pick capacity t a key) o ≡ Some what) of picks.pick))) (picked-refl what))))
+    (found_doing (its_pick capacity key what) is_running a before picks.running (λ s of runs. and_from _ _ runs (subst (λ (p : Picked). IsTrue (same_picked p what)) (sym (some_is (pick capacity s a key) what (subst (λ (o : Option Service). option_map (λ t. pick capacity t a key) o ≡ Some what) of picks.pick))) (picked-refl what))))
   where
     some_is : (p q : Picked) → Some p ≡ Some q → p ≡ q
     some_is p q e = cc

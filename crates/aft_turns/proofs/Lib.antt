@@ -1,4 +1,5 @@
 pub mod Closed
+pub mod Found
 pub mod Looked
 pub mod Views
 pub mod Written
