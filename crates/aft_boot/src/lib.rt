@@ -6,11 +6,14 @@
 mod boot;
 mod comings;
 mod crash;
+mod driving;
 mod fencing;
 mod pages;
 mod reading;
 mod stage;
 mod turns;
+mod world;
 
 pub use boot::Boot;
 pub use crash::Crash;
+pub use world::World;
