@@ -35,22 +35,17 @@ pub pages_below : (least : ℕ) (by : By) (node inc : ℕ) (pages : List PageAt)
 pages_below least by node inc [] = refl
 pages_below least by node inc (page ∷ pages) = and_from _ _ refl (pages_below least by node inc pages)
 
--- one that is ready for a node is so for the next one, once that has come up
-act_grows : (node : ℕ) (act : DoorAct) → IsTrue (comes_below node act) → IsTrue (comes_below (suc node) act)
-act_grows node (doors.Up other inc) below = lt-ltb other (suc node) (let lt = ltb-true other node below in omega arith)
-act_grows node (doors.Fence other inc) below = absurd (false≢true below)
-act_grows node act below = refl
+-- what is below a node is below those behind it
+act_least : (node least : ℕ) (act : DoorAct) → node ≤ least → IsTrue (comes_below node act) → IsTrue (comes_below least act)
+act_least node least (doors.Up other inc) le below = lt-ltb other least (let lt = ltb-true other node below in omega arith)
+act_least node least (doors.Fence other inc) le below = absurd (false≢true below)
+act_least node least act le below = refl
 
-below_grows : (node : ℕ) (door : List DoorEntry) → AllBelow node door → AllBelow (suc node) door
-below_grows node [] all = refl
-below_grows node (entry ∷ door) all =
+pub below_least : (node least : ℕ) (door : List DoorEntry) → node ≤ least → AllBelow node door → AllBelow least door
+below_least node least [] le all = refl
+below_least node least (entry ∷ door) le all =
     let parts = and_parts (comes_below node entry.act) (list_all (λ (e : DoorEntry). comes_below node e.act) door) all in
-    and_from _ _ (act_grows node entry.act parts.0) (below_grows node door parts.1)
-
-pub below_next : (by : By) (node inc : ℕ) (door : List DoorEntry) (pages : List PageAt) → AllBelow node door → AllBelow (suc node) (door ++ record { by = by; act = doors.Up node inc } ∷ map (page_entry by node inc) pages)
-below_next by node inc door pages all =
-    both_below (suc node) door (record { by = by; act = doors.Up node inc } ∷ map (page_entry by node inc) pages) (below_grows node door all)
-    (and_from _ _ (lt-ltb node (suc node) (omega arith)) (pages_below (suc node) by node inc pages))
+    and_from _ _ (act_least node least entry.act le parts.0) (below_least node least door le parts.1)
 
 -- ---- nobody was fenced
 

@@ -1,3 +1,4 @@
+pub mod Audited
 pub mod Below
 pub mod BootCauses
 pub mod BootSees
@@ -16,5 +17,6 @@ pub mod NodeTurns
 pub mod PageRuns
 pub mod Pairs
 pub mod Premises
+pub mod Served
 pub mod Shown
 pub mod Ups

@@ -5,3 +5,4 @@ pub mod Crashed
 pub mod Driving
 pub mod FirstBoots
 pub mod Pages
+pub mod World

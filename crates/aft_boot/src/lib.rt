@@ -8,6 +8,7 @@ mod comings;
 mod crash;
 mod driving;
 mod fencing;
+mod opens;
 mod pages;
 mod reading;
 mod stage;
