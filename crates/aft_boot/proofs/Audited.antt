@@ -1,7 +1,7 @@
 -- Till the door is open the office reads alone, for the opening.
-use Rattle.std.proofs.Common.{◌≡◌, ◌≤◌, ℕ, Bool, true, false, ◌&&◌, ◌||◌, not, List, [], ◌∷◌, ◌++◌, refl, sym, ap, subst, ◌∙◌, append_assoc}
+use Rattle.std.proofs.Common.{◌≡◌, ℕ, Bool, true, false, ◌&&◌, ◌||◌, List, [], ◌∷◌, ◌++◌, refl, sym, ap, subst, ◌∙◌, append_assoc}
 use Rattle.std.specs.Prelude.{IsFalse, IsTrue, if◌then◌else◌}
-use Rattle.std.specs.List.{list_all, list_any}
+use Rattle.std.specs.List.{list_all}
 use Rattle.std.proofs.lemmas.Bool.{and_from, and_parts, false≢true, or_parts, true≢false}
 use Rattle.std.proofs.lemmas.List.Folds.{list_all-append, list_any-append}
 use Rattle.aft_records.specs.declared.stored.Commit.{Commit}
@@ -20,7 +20,7 @@ use Rattle.aft_boot.specs.FirstBoots.{IsReadyFor, comes_below}
 use Rattle.aft_boot.proofs.Below.{AllBelow}
 
 -- whether an entry is the opening's call of the store
-abbrev is_call : DoorAct → Bool
+abbrev pub is_call : DoorAct → Bool
 is_call (Call node inc asked answer) = true
 is_call act = false
 

@@ -1,5 +1,5 @@
 -- What one call behind the other leaves of the store and of the count of its failures.
-use Rattle.std.proofs.Common.{◌≡◌, ◌≤◌, ◌<◌, ◌-◌, ◌^◌, ℕ, Bool, true, false, ltb, List, refl, sym, subst, ◌∙◌, ◌⊎◌, inl, inr, arith}
+use Rattle.std.proofs.Common.{◌≡◌, ◌≤◌, ℕ, ltb, List, sym, subst, ◌∙◌, inl, inr, arith}
 use Rattle.std.specs.Prelude.{Err, IfErr, IsErr, IsErrAnd, IsFalse, IsTrue, MatchResult, Ok, Result}
 use Rattle.std.proofs.lemmas.Bool.{cases_Bool, false≢true, ltb-false, ltb-true, true≢false}
 use Rattle.aft_audit.specs.declared.fault.AuditFault.{AuditFault}

@@ -1,7 +1,7 @@
 -- The turns of a first boot, one behind the other.
-use Rattle.std.proofs.Common.{◌≡◌, ◌+◌, ◌-◌, ◌≤◌, ℕ, suc, true, List, [], ◌∷◌, ◌++◌, length, length-append, max, refl, sym, ap, subst, ◌∙◌, ◌⊎◌, inl, inr, append-nil, append_assoc, arith}
-use Rattle.std.specs.Prelude.{IsTrue, None, Option, Some, if◌then◌else◌, map}
-use Rattle.std.specs.List.{flat_map, fold, list_all}
+use Rattle.std.proofs.Common.{◌≡◌, ◌+◌, ◌-◌, ℕ, suc, true, List, [], ◌∷◌, ◌++◌, length, length-append, max, refl, sym, ap, subst, ◌∙◌, inl, inr, append-nil, append_assoc, arith}
+use Rattle.std.specs.Prelude.{Option, if◌then◌else◌}
+use Rattle.std.specs.List.{flat_map, list_all}
 use Rattle.std.proofs.lemmas.Bool.{and_parts, false≢true}
 use Rattle.std.proofs.lemmas.List.Concat.{flat_map-append}
 use Rattle.std.proofs.lemmas.List.Sums.{fold-append}
@@ -9,19 +9,16 @@ use Rattle.aft_model.specs.declared.caller.By.{By}
 use Rattle.aft_model.specs.declared.door.DoorAct.{DoorAct}
 use Rattle.aft_model.specs.declared.door.DoorEntry.{DoorEntry}
 use Rattle.aft_model.specs.declared.node.NodeAct.{NodeAct}
-use Rattle.aft_model.specs.declared.node.NodeAct.TheVariants as acts
 use Rattle.aft_model.specs.declared.node.NodeEntry.{NodeEntry}
 use Rattle.aft_model.specs.declared.reply.Reply.{Reply}
-use Rattle.aft_model.specs.LegalNode.{front}
 use Rattle.aft_model.specs.Opening.{opening}
 use Rattle.aft_model.specs.Replies.{is_silent}
 use Rattle.aft_ledger.specs.View.{NodeView, after_entry}
 use Rattle.aft_lines.specs.LineView.{door_entry_in}
 use Rattle.aft_lines.specs.Turns.{AtDoor, AtNode, AtOffice, Turn}
-use Rattle.aft_boot.specs.Booted.{Made, PageAt, begun_turns, page_turn, up_turns}
+use Rattle.aft_boot.specs.Booted.{Made}
 use Rattle.aft_boot.specs.BootView.{BootView}
-use Rattle.aft_boot.specs.Crashed.{turn_at}
-use Rattle.aft_boot.specs.Driving.{Drives, Placed, node_entry_in, room_behind}
+use Rattle.aft_boot.specs.Driving.{Drives, Placed, node_entry_in}
 use Rattle.aft_boot.proofs.Entries.{AreDoor, is_door}
 use Rattle.aft_turns.specs.Steps.{StepsAtDoor, StepsAtNode, entry_of}
 use Rattle.aft_turns.specs.Trail.{Trail, behind, looking}

@@ -1,8 +1,8 @@
 -- What has come of a first boot that is over.
-use Rattle.std.proofs.Common.{◌≡◌, ◌+◌, ◌-◌, ◌≤◌, ℕ, suc, Bool, true, false, ◌&&◌, ◌||◌, not, List, [], ◌∷◌, ◌++◌, eqb, length, length-append, refl, sym, ap, subst, ◌∙◌, ◌⊎◌, inl, inr, append-nil, append_assoc, arith}
+use Rattle.std.proofs.Common.{◌≡◌, ◌+◌, ◌-◌, ◌≤◌, ℕ, suc, Bool, false, ◌||◌, not, List, [], ◌∷◌, ◌++◌, length, length-append, refl, sym, ap, subst, ◌∙◌, ◌⊎◌, inl, inr, append-nil, append_assoc, arith}
 use Rattle.std.specs.Prelude.{Err, IsTrue, MatchResult, None, Ok, Option, Result, Some, if◌then◌else◌, map, slice_get}
 use Rattle.std.specs.List.{flat_map}
-use Rattle.std.proofs.lemmas.Bool.{and_from, and_parts, eq-eqb, eqb-true, false≢true}
+use Rattle.std.proofs.lemmas.Bool.{and_from, and_parts, eq-eqb, false≢true}
 use Rattle.std.proofs.lemmas.List.{length-map}
 use Rattle.std.proofs.lemmas.List.Concat.{flat_map-append}
 use Rattle.aft_audit.specs.declared.fault.AuditFault.{AuditFault}
@@ -31,14 +31,13 @@ use Rattle.aft_model.proofs.Histories.{each_after_split}
 use Rattle.aft_ledger.specs.Turns.{boot_refusal}
 use Rattle.aft_ledger.specs.View.{NodeView}
 use Rattle.aft_lines.specs.LineView.{door_entry_in, has_left}
-use Rattle.aft_lines.specs.Turns.{AtDoor, AtNode, AtOffice, Turn}
+use Rattle.aft_lines.specs.Turns.{AtDoor, AtNode, Turn}
 use Rattle.aft_node.specs.declared.goes.BootEnd.{BootEnd}
 use Rattle.aft_node.specs.declared.goes.BootEnd.TheVariants.{Refused, Shown}
-use Rattle.aft_boot.specs.Booted.{AreRead, BootsSo, Closes, EndedAtOnce, EndedLater, HasBegun, HasRead, HasStopped as HasStoppedAt, IsShutOut, IsToEnd, PageAt, StopsAt, begun_turns, listed_on, page_act, page_turn, scan_page, up_turns}
-use Rattle.aft_boot.specs.BootView.{BootView}
+use Rattle.aft_boot.specs.Booted.{AreRead, Closes, EndedAtOnce, EndedLater, HasBegun, HasRead, HasStopped as HasStoppedAt, IsShutOut, IsToEnd, PageAt, StopsAt, begun_turns, listed_on, page_act, page_turn, scan_page, up_turns}
 use Rattle.aft_boot.specs.Crashed.{turn_at}
 use Rattle.aft_boot.specs.Driving.{AnswerTells, Drives, LastTells, Placed, ReplyTells, node_entry_in, room_behind}
-use Rattle.aft_boot.specs.FirstBoots.{FirstBoot, HasServed, HasStopped, StandsSo, Stops, StopsBehind, TellsFault, are_placed, boot_entries, first_entry, last_entry, node_behind}
+use Rattle.aft_boot.specs.FirstBoots.{FirstBoot, HasServed, Stops, StopsBehind, TellsFault, are_placed, boot_entries, first_entry, last_entry}
 use Rattle.aft_boot.specs.Pages.{StopsCall}
 use Rattle.aft_boot.specs.declared.stage.Stage.TheVariants.{Ended}
 use Rattle.aft_boot.proofs.Below.{AllBelow, not_up}

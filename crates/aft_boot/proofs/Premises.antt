@@ -1,8 +1,8 @@
 -- What a first boot's machine asks of its next turn stands where the opening drives it.
-use Rattle.std.proofs.Common.{◌≡◌, ◌+◌, ◌-◌, ◌≤◌, ◌<◌, ℕ, suc, Bool, true, false, ◌&&◌, ◌||◌, not, List, [], ◌∷◌, ◌++◌, eqb, length, refl, sym, ap, subst, ◌∙◌, ◌⊎◌, inl, inr, append-nil, arith}
+use Rattle.std.proofs.Common.{◌≡◌, ◌-◌, ◌≤◌, ℕ, suc, Bool, true, false, ◌&&◌, ◌||◌, not, List, [], ◌∷◌, ◌++◌, eqb, length, refl, sym, ap, subst, ◌∙◌, inl, inr, append-nil, arith}
 use Rattle.std.specs.Prelude.{IsTrue, None, Option, Some, map, nat_le}
-use Rattle.std.specs.List.{flat_map, fold, list_all, list_any}
-use Rattle.std.proofs.lemmas.Bool.{and_from, and_parts, eq-eqb, eqb-true, false≢true, not-true, or_cases, or_left, or_right, true≢false}
+use Rattle.std.specs.List.{flat_map, fold}
+use Rattle.std.proofs.lemmas.Bool.{and_from, and_parts, eq-eqb, eqb-true, false≢true, or_cases, or_left, or_right}
 use Rattle.std.proofs.lemmas.List.Folds.{list_any-append}
 use Rattle.std.proofs.lemmas.List.Sums.{fold-append}
 use Rattle.aft_keeper.specs.Cause.{HasCause, Rose}
@@ -10,29 +10,25 @@ use Rattle.aft_keeper.specs.declared.keeper.KeeperAnswer.{KeeperAnswer}
 use Rattle.aft_keeper.specs.declared.keeper.KeeperAnswer.TheVariants as answers
 use Rattle.aft_records.specs.declared.stored.Commit.{Commit}
 use Rattle.aft_model.specs.declared.caller.By.{By}
-use Rattle.aft_model.specs.declared.door.DoorAct.{DoorAct}
 use Rattle.aft_model.specs.declared.door.DoorEntry.{DoorEntry}
 use Rattle.aft_model.specs.declared.node.NodeAct.TheVariants as acts
 use Rattle.aft_model.specs.declared.node.NodeEntry.{NodeEntry}
 use Rattle.aft_model.specs.declared.reply.Reply.{Reply}
-use Rattle.aft_model.specs.declared.reply.Reply.TheVariants as replies
 use Rattle.aft_model.specs.DoorKnowledge.{is_open, opens}
 use Rattle.aft_model.specs.LegalNode.{LegalNode, front as front_of, may_follow_at}
 use Rattle.aft_model.specs.Membership.{incarnation, is_up}
-use Rattle.aft_model.specs.NodeSights.{comes_up, is_fenced, own_entries}
 use Rattle.aft_model.specs.NodeState.{boots, node_state}
 use Rattle.aft_model.specs.Opening.{has_failed, is_failure, opening}
-use Rattle.aft_door.specs.Refusals.{is_past}
 use Rattle.aft_ledger.specs.View.{NodeView}
 use Rattle.aft_lines.specs.LineView.{door_entry_in, has_left}
-use Rattle.aft_lines.specs.Turns.{AtDoor, AtNode, AtOffice, Turn}
+use Rattle.aft_lines.specs.Turns.{AtDoor, Turn}
 use Rattle.aft_node.specs.Closing.{MayClose, act_passes, last_own, opens_boot}
 use Rattle.aft_node.specs.declared.goes.BootEnd.{BootEnd}
 use Rattle.aft_node.specs.declared.goes.BootEnd.TheVariants.{Refused, Shown}
-use Rattle.aft_boot.specs.Booted.{HasBegun, HasComeUp, HasRead, HasStopped, IsScanning, IsToEnd, Made, PageAt, StopsAt, begun_turns, listed_on, made_at, may_call_at, may_close_at, may_end_at, page_act, page_turn, told_fault_at, up_turns}
+use Rattle.aft_boot.specs.Booted.{HasBegun, HasComeUp, IsScanning, IsToEnd, Made, PageAt, StopsAt, begun_turns, listed_on, made_at, may_call_at, may_close_at, may_end_at, page_act, page_turn, told_fault_at, up_turns}
 use Rattle.aft_boot.specs.BootView.{BootView, left_at, left_of, next_at}
 use Rattle.aft_boot.specs.Crashed.{turn_at}
-use Rattle.aft_boot.specs.Driving.{Drives, Placed, node_entry_in, room_behind}
+use Rattle.aft_boot.specs.Driving.{Drives, node_entry_in, room_behind}
 use Rattle.aft_boot.specs.FirstBoots.{IsReadyFor}
 use Rattle.aft_boot.specs.Pages.{StopsCall}
 use Rattle.aft_boot.specs.declared.stage.Stage.{Stage}

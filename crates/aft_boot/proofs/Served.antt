@@ -1,7 +1,7 @@
 -- First boots one behind the other.
-use Rattle.std.proofs.Common.{◌≡◌, ◌+◌, ◌≤◌, ◌<◌, ℕ, zero, suc, Bool, true, false, ◌&&◌, List, [], ◌∷◌, ◌++◌, length, length-append, refl, sym, ap, subst, ◌∙◌, inl, inr, append-nil, append_assoc, arith}
+use Rattle.std.proofs.Common.{◌≡◌, ◌+◌, ◌≤◌, ◌<◌, ℕ, zero, suc, List, [], ◌∷◌, ◌++◌, length, length-append, refl, sym, ap, subst, ◌∙◌, inl, inr, append-nil, append_assoc, arith}
 use Rattle.std.specs.Prelude.{IsTrue, Some, map}
-use Rattle.std.specs.List.{flat_map, list_all, range_with_len}
+use Rattle.std.specs.List.{flat_map, range_with_len}
 use Rattle.std.proofs.lemmas.Bool.{and_from, lt-ltb, or_left}
 use Rattle.std.proofs.lemmas.List.{map-append}
 use Rattle.std.proofs.lemmas.List.Concat.{flat_map-append}
@@ -14,7 +14,7 @@ use Rattle.aft_model.specs.LegalNode.{is_legal_node}
 use Rattle.aft_model.specs.Opening.{opening}
 use Rattle.aft_ledger.specs.View.{NodeView}
 use Rattle.aft_lines.specs.Turns.{AtNode}
-use Rattle.aft_boot.specs.FirstBoots.{FirstBoot, FollowFrom, HasServed, HaveServed, HaveStopped, IsReadyFor, Stops, boot_entries, comes_below, first_entry, last_entry, node_behind}
+use Rattle.aft_boot.specs.FirstBoots.{FirstBoot, FollowFrom, HasServed, HaveServed, HaveStopped, IsReadyFor, Stops, boot_entries, first_entry, last_entry, node_behind}
 use Rattle.aft_boot.proofs.Below.{AllBelow, both_below, below_least, pages_below}
 use Rattle.aft_boot.proofs.Entries.{entries_of, page_entry, up_entries}
 

@@ -20,7 +20,7 @@ use Rattle.aft_audit.specs.declared.fault.AuditFault.TheVariants as faults
 use Rattle.aft_ledger.specs.View.{NodeView}
 use Rattle.aft_lines.specs.LineView.{door_entry_in}
 use Rattle.aft_lines.specs.Turns.{AtDoor, AtNode, Turn}
-use Rattle.aft_boot.specs.Booted.{AreRead, PageAt, begun_turns, listed_on, page_act, page_turn, scan_page, up_turns}
+use Rattle.aft_boot.specs.Booted.{AreRead, PageAt, begun_turns, listed_on, page_act, page_turn, scan_page}
 use Rattle.aft_boot.specs.Pages.{StopsCall}
 
 -- ---- one that serves

@@ -1,11 +1,13 @@
 -- What an opening gives: a world behind it, or why there is none.
-use Rattle.std.specs.Prelude.{Bool, IsFalse, IsTrue, List, None, Some, [], false, if◌then◌else◌, length, map, nat_le, replicate, true, ℕ, ◌&&◌, ◌++◌, ◌+◌, ◌<◌, ◌==◌, ◌≡◌, ◌≤◌, ◌⊎◌, ◌∷◌}
-use Rattle.std.specs.List.{flat_map, fold, list_all}
-use Rattle.aft_id.specs.declared.txn_id.TxnId.{TxnId}
+use Rattle.std.specs.Prelude.{Bool, IsTrue, List, None, Option, Some, [], false, if◌then◌else◌, length, map, nat_le, replicate, true, ℕ, ◌&&◌, ◌++◌, ◌+◌, ◌<◌, ◌==◌, ◌≡◌, ◌≤◌, ◌⊎◌, ◌∷◌}
+use Rattle.std.specs.List.{flat_map, fold}
 use Rattle.aft_audit.specs.Audit.{HasOpened, IsRefusedFor}
 use Rattle.aft_audit.specs.declared.fault.AuditFault.{AuditFault}
 use Rattle.aft_audit.specs.declared.fault.AuditFault.TheVariants.{Damaged, Memory, Store, TooMany}
 use Rattle.aft_conf.specs.declared.conf.Conf.{Conf}
+use Rattle.aft_door.specs.Calls.{DoorView}
+use Rattle.aft_keeper.specs.declared.keeper.KeeperEntry.{KeeperEntry}
+use Rattle.aft_keeper.specs.declared.keeper.Pair.{Pair}
 use Rattle.aft_ledger.specs.View.{NodeView}
 use Rattle.aft_lines.specs.Asked.{Ran, Settings}
 use Rattle.aft_lines.specs.CausesScans.{damage_in, listed_in, written_name}
@@ -56,6 +58,11 @@ empty_boxes settings = replicate (settings.nodes + 1) (empty_box settings)
 -- the office that has heard of what was committed when the door was opened, with room for so many answers, and that has done nothing
 abbrev pub fresh_office : List DoorEntry → ℕ → Desk
 fresh_office door lines = record { heard = heard door []; history = []; front = 0; room = lines }
+
+-- a door tells of its store what that told at first
+pub record TellsFirst (pairs : Option (List Pair)) (calls : Option (List KeeperEntry)) (door : DoorView) : Type 0 where
+  pub contents : door.first_contents ≡ pairs
+  pub log : door.first_log ≡ calls
 
 -- ---- no world
 

@@ -17,4 +17,5 @@ mod world;
 
 pub use boot::Boot;
 pub use crash::Crash;
+pub use opens::opening;
 pub use world::World;

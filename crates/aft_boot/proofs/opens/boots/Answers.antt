@@ -1,10 +1,9 @@
-use Rattle.std.proofs.Common.{List, arith, subst, sym, ◌+◌, ◌≤◌}
-use Rattle.aft_audit.specs.declared.fault.AuditFault.{AuditFault}
+use Rattle.std.proofs.Common.{List, arith, subst, sym, ◌+◌}
 use Rattle.aft_audit.specs.declared.fault.AuditFault.TheVariants as faults
 use Rattle.aft_ledger.specs.View.{NodeView}
-use Rattle.aft_boot.specs.FirstBoots.{HaveServed, HaveStopped}
-use Rattle.aft_boot.proofs.Chains.{as_fault, causes_chain, no_cause, stores_chain}
-use Rattle.aft_boot.proofs.Served.{lacks_memory, none_served, one_more, ready_next, stops_next}
+use Rattle.aft_boot.specs.FirstBoots.{HaveServed}
+use Rattle.aft_boot.proofs.Chains.{as_fault, causes_chain, stores_chain}
+use Rattle.aft_boot.proofs.Served.{lacks_memory, one_more, ready_next, stops_next}
 use Rattle.aft_boot.proofs.opens.boots.Goals as goal
 
 pub booted-requires-clause-ready : goal.booted-requires-clause-ready

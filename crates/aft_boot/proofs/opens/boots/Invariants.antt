@@ -1,4 +1,3 @@
-use Rattle.std.proofs.Common.{◌≡◌}
 use Rattle.aft_keeper.specs.Cause.{HasCause}
 use Rattle.aft_turns.specs.Steps.{SameStore}
 use Rattle.aft_boot.specs.FirstBoots.{HaveServed}
