@@ -1,10 +1,9 @@
 -- The course of an opening by the turns that it made.
-use Rattle.std.proofs.Common.{◌≡◌, ◌+◌, ◌≤◌, ℕ, zero, suc, Bool, true, false, ◌&&◌, ◌||◌, not, List, [], ◌∷◌, ◌++◌, eqb, length, length-append, refl, sym, ap, subst, ◌∙◌, append-nil, append_assoc, arith}
-use Rattle.std.specs.Prelude.{IsTrue, None, Option, Some, if◌then◌else◌, map, nat_le}
+use Rattle.std.proofs.Common.{◌≡◌, ◌+◌, ◌≤◌, ℕ, zero, suc, Bool, true, false, ◌&&◌, List, [], ◌∷◌, ◌++◌, eqb, length, refl, sym, ap, subst, ◌∙◌, append-nil, append_assoc, arith}
+use Rattle.std.specs.Prelude.{IsTrue, None, Option, Some, if◌then◌else◌, map}
 use Rattle.std.specs.List.{flat_map, list_all, range_with_len}
 use Rattle.std.specs.Str.{bytes_eq}
-use Rattle.std.proofs.lemmas.Bool.{and_from, and_parts, eq-eqb, false≢true, le-leb, or_left, or_right}
-use Rattle.std.proofs.lemmas.List.Folds.{list_all-append}
+use Rattle.std.proofs.lemmas.Bool.{and_from, and_parts, eq-eqb, false≢true, or_left, or_right}
 use Rattle.aft_keeper.specs.declared.keeper.KeeperAnswer.{KeeperAnswer}
 use Rattle.aft_keeper.specs.declared.keeper.KeeperAnswer.TheVariants as answers
 use Rattle.aft_keeper.specs.declared.keeper.Pair.{Pair}
@@ -28,6 +27,7 @@ use Rattle.aft_boot.specs.Booted.{AreRead, PageAt, listed_on, page_act, page_tur
 use Rattle.aft_boot.specs.FirstBoots.{FirstBoot, FollowFrom, boot_entries, boot_turns, first_entry, last_entry}
 use Rattle.aft_boot.proofs.Audited.{AreReads, is_call, is_reading}
 use Rattle.aft_boot.proofs.MadeTurns.{boot_door_turns}
+use Rattle.aft_boot.proofs.PageRuns.{Fine, fine_all, fine_first, fine_rest, good}
 
 -- ---- a scan of the records by pages
 
@@ -38,25 +38,6 @@ module _ (node : ℕ) where
 
   its_call : (after : List ℕ) → IsTrue (same_incarnation (incarnation node 1) (incarnation node 1) && bytes_eq records_prefix records_prefix && bytes_eq after after && eqb 64 64)
   its_call after = and_from _ _ (and_from _ _ (and_from _ _ (same_itself (incarnation node 1)) refl) (bytes_eq-refl after)) refl
-
-  -- what was listed from a name on is few enough, each with a reading
-  abbrev Fine : List Pair → List PageAt → Type 0
-  Fine listed pages = (length listed + length (listed_on pages) ≤ 20000) × IsTrue (list_all has_reading (listed_on pages))
-
-  fine_first : (listed : List Pair) (page : PageAt) (pages : List PageAt) → Fine listed (page ∷ pages) → (length listed + length page.listed ≤ 20000) × IsTrue (list_all has_reading page.listed)
-  fine_first listed page pages (few, readable) = (
-    let l = length-append page.listed (listed_on pages) in omega arith,
-    (and_parts (list_all has_reading page.listed) (list_all has_reading (listed_on pages)) (sym (list_all-append has_reading page.listed (listed_on pages)) ∙ readable)).0,
-  )
-
-  fine_rest : (listed : List Pair) (page : PageAt) (pages : List PageAt) → Fine listed (page ∷ pages) → Fine (listed ++ page.listed) pages
-  fine_rest listed page pages (few, readable) = (
-    let l = length-append page.listed (listed_on pages) in let m = length-append listed page.listed in omega arith,
-    (and_parts (list_all has_reading page.listed) (list_all has_reading (listed_on pages)) (sym (list_all-append has_reading page.listed (listed_on pages)) ∙ readable)).1,
-  )
-
-  good : (listed pairs : List Pair) → length listed + length pairs ≤ 20000 → IsTrue (list_all has_reading pairs) → stops_at names_limit listed pairs ≡ false
-  good listed pairs few readable = ap not (and_from (nat_le (length listed + length pairs) 20000) (false || list_all has_reading pairs) (le-leb (length listed + length pairs) 20000 few) readable)
 
   -- one page
   paged : (place : ℕ) (after : List ℕ) (listed pairs : List Pair) (rest : List Turn) → length listed + length pairs ≤ 20000 → IsTrue (list_all has_reading pairs)
@@ -100,7 +81,7 @@ module _ (node : ℕ) where
           ∙ ap (whole_at rest) (append_assoc listed page.listed (listed_on others))
 
   pub whole_pages : (pages : List PageAt) (rest : List Turn) → IsTrue (is_scan_run (map scan_page pages)) → AreRead pages → scanned names_limit (incarnation node 1) records_prefix (map (page_turn node 1) pages ++ rest) ≡ whole_at rest ([] ++ listed_on pages)
-  whole_pages pages rest whole read = all_pages pages [] [] rest whole (let few = read.few in omega arith, read.readable)
+  whole_pages pages rest whole read = all_pages pages [] [] rest whole (fine_all pages read)
 
   -- ---- one that stopped
 

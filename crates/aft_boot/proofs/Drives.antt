@@ -23,7 +23,7 @@ use Rattle.aft_boot.proofs.Entries.{AreDoor, is_door}
 use Rattle.aft_turns.specs.Steps.{StepsAtDoor, StepsAtNode, entry_of}
 use Rattle.aft_turns.specs.Trail.{Trail, behind, looking}
 
-abbrev done_at_door : List Turn → List DoorEntry
+abbrev pub done_at_door : List Turn → List DoorEntry
 done_at_door turns = flat_map (door_entry_in opening) turns
 
 abbrev done_at_node : List Turn → List NodeEntry

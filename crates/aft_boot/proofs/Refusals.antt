@@ -33,11 +33,11 @@ use Rattle.aft_boot.specs.FirstBoots.{FirstBoot, FollowFrom, HasStopped, HaveSto
 use Rattle.aft_boot.specs.Pages.{StopsCall, damage}
 use Rattle.aft_boot.specs.World.{StopsBoot, is_store, last_boot, names_shown}
 use Rattle.aft_boot.proofs.Courses.{nothing_behind, over_so_far, stopped_on, stopped_pages, whole_pages}
+use Rattle.aft_boot.proofs.Drives.{done_at_door}
 use Rattle.aft_boot.proofs.Entries.{fails, lists_records, page_entry, pages_entries, shows_damage}
 use Rattle.aft_boot.proofs.MadeTurns.{pages_turns}
-
-abbrev done_at_door : List Turn → List DoorEntry
-done_at_door turns = flat_map (door_entry_in opening) turns
+use Rattle.aft_boot.proofs.PageRuns.{fine_all}
+use Rattle.aft_boot.proofs.Worlds.{pages_work}
 
 -- ---- a boot that stopped behind its coming up
 
@@ -51,13 +51,13 @@ stopped_entries node place pages more =
 scan_over : (node place : ℕ) (pages : List PageAt) (more : List Turn) (fault : AuditFault) → AreRead pages → StopsBehind node pages more fault → IsTrue (is_over (scanned names_limit (incarnation node 1) records_prefix (map (page_turn node 1) pages ++ door_turns opening place (done_at_door more))).behind)
 scan_over node place pages more fault read (inl (none, memory, inl (after, goes))) =
     subst (λ (ts : List Turn). IsTrue (is_over (scanned names_limit (incarnation node 1) records_prefix (map (page_turn node 1) pages ++ door_turns opening place (done_at_door ts))).behind)) (sym none)
-    (stopped_pages node pages [] after [] [] goes (let few = read.few in omega arith, read.readable) (λ l. refl))
+    (stopped_pages node pages [] after [] [] goes (fine_all pages read) (λ l. refl))
 scan_over node place pages more fault read (inl (none, memory, inr whole)) =
     subst (λ (ts : List Turn). IsTrue (is_over (scanned names_limit (incarnation node 1) records_prefix (map (page_turn node 1) pages ++ door_turns opening place (done_at_door ts))).behind)) (sym none)
     (subst (λ (s : Scanned). IsTrue (is_over s.behind)) (sym (whole_pages node pages [] whole read)) refl)
 scan_over node place pages more fault read (inr (at, after, answer, reply, goes, one, stops, tells)) =
     subst (λ (ts : List Turn). IsTrue (is_over (scanned names_limit (incarnation node 1) records_prefix (map (page_turn node 1) pages ++ door_turns opening place (done_at_door ts))).behind)) (sym one)
-    (stopped_pages node pages [] after [] (AtDoor place (page_act node 1 after answer) ∷ []) goes (let few = read.few in omega arith, read.readable) (λ l. nothing_behind node place after l answer))
+    (stopped_pages node pages [] after [] (AtDoor place (page_act node 1 after answer) ∷ []) goes (fine_all pages read) (λ l. nothing_behind node place after l answer))
 
 stopped_begins : (node place : ℕ) (fault : AuditFault) (turns : List Turn) (others : List ℕ) → HasStopped node fault place turns → IsTrue (boots_so_far (node ∷ others) (door_turns opening place (done_at_door turns)))
 stopped_begins node place fault turns others has =
@@ -103,10 +103,6 @@ tail_begins most fault count place tail (inr (lt, (turns, has, is))) =
 
 memory_is_not : (fault : AuditFault) → fault ≡ faults.Memory → false ≡ is_store fault
 memory_is_not fault is = sym (ap is_store is)
-
-pages_work : (node : ℕ) (pages : List PageAt) (rest : List DoorEntry) → has_failed (map (page_entry opening node 1) pages ++ rest) ≡ has_failed rest
-pages_work node [] rest = refl
-pages_work node (page ∷ pages) rest = pages_work node pages rest
 
 -- a call that stops a boot failed where the fault is the store's
 call_fails : (node : ℕ) (after : List ℕ) (answer : KeeperAnswer) (listed : ℕ) (reply : Reply) (fault : AuditFault) → StopsCall answer listed reply → TellsFault reply fault → (is_failure (page_act node 1 after answer) || false) ≡ is_store fault

@@ -1,7 +1,7 @@
 -- What stands of a world that an opening made.
 use Rattle.std.proofs.Common.{◌≡◌, ◌+◌, ◌≤◌, ℕ, zero, suc, Bool, false, ◌&&◌, ◌||◌, List, [], ◌∷◌, ◌++◌, eqb, length, length-append, refl, sym, ap, subst, ◌∙◌, append_assoc, arith}
 use Rattle.std.specs.Prelude.{IsFalse, IsTrue, map, replicate, take}
-use Rattle.std.specs.List.{flat_map, list_all, list_any, range_with_len}
+use Rattle.std.specs.List.{flat_map, list_all, range_with_len}
 use Rattle.std.proofs.lemmas.Bool.{and_from, and_parts, eq-eqb, le-leb, or_left, or_right}
 use Rattle.std.proofs.lemmas.List.{length-map, length-replicate, take_at}
 use Rattle.std.proofs.lemmas.List.Folds.{list_all-append, list_any-append}
@@ -55,9 +55,9 @@ pages_own : (node : ℕ) (pages : List PageAt) → IsTrue (list_all (λ entry. s
 pages_own node [] = refl
 pages_own node (page ∷ pages) = and_from _ _ refl (pages_own node pages)
 
-pages_work : (node : ℕ) (pages : List PageAt) → list_any (λ entry. is_failure entry.act) (map (page_entry opening node 1) pages ++ []) ≡ false
-pages_work node [] = refl
-pages_work node (page ∷ pages) = pages_work node pages
+pub pages_work : (node : ℕ) (pages : List PageAt) (rest : List DoorEntry) → has_failed (map (page_entry opening node 1) pages ++ rest) ≡ has_failed rest
+pages_work node [] rest = refl
+pages_work node (page ∷ pages) rest = pages_work node pages rest
 
 pub boots_own : (boots : List FirstBoot) → IsTrue (list_all (λ entry. same_line opening entry.by) (flat_map boot_entries boots))
 boots_own [] = refl
@@ -69,7 +69,7 @@ pub boots_work : (boots : List FirstBoot) → has_failed (flat_map boot_entries 
 boots_work [] = refl
 boots_work (boot ∷ boots) =
     list_any-append (λ (e : DoorEntry). is_failure e.act) (boot_entries boot) (flat_map boot_entries boots)
-    ∙ ap (λ (t : Bool). t || has_failed (flat_map boot_entries boots)) (ap has_failed (boot_at_door boot) ∙ pages_work boot.node boot.pages)
+    ∙ ap (λ (t : Bool). t || has_failed (flat_map boot_entries boots)) (ap has_failed (boot_at_door boot) ∙ pages_work boot.node boot.pages [])
     ∙ boots_work boots
 
 -- ---- what a boot has seen

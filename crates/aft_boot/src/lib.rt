@@ -12,6 +12,8 @@ mod opens;
 mod pages;
 mod reading;
 mod stage;
+#[cfg(test)]
+mod tests;
 mod turns;
 mod world;
 
