@@ -141,9 +141,7 @@ module _ (by : By) (node : ℕ) (hold : Hold) (view : LineView) (inc : ℕ) (bef
         (let l = length-append (listed_on pages) (page ++ []) in let m = length-append page [] in omega arith)))
 
     pub stopped : (answer : KeeperAnswer) (reply : Reply) → StopsCall answer (length (listed_on pages)) reply → Caused (ran (all_turns (call answer) act reply)) reply
-    stopped answers.Failed replies.StoreFault stops = failed replies.StoreFault
-    stopped answers.Failed replies.NoMemory stops = refl
-    stopped answers.Failed reply stops = absurd stops
+    stopped answers.Failed reply stops = subst (λ (r : Reply). Caused (ran (all_turns (call answers.Failed) act reply)) r) (sym stops) (failed reply)
     stopped (answers.Page page) replies.TooManyRecords stops = many page replies.TooManyRecords stops
     stopped (answers.Page page) (replies.Damaged written) (few, shown) = damaged page written shown.0 (replies.Damaged written) few shown.1 shown.2
     stopped (answers.Page page) replies.NoMemory stops = refl

@@ -78,7 +78,7 @@ module _ (by : By) (node inc : ℕ) (commits : List Commit) (pages : List PageAt
   shows since = shows_commits commits (scan_pages who by records_prefix since)
 
   -- what follows shows them, where the line did there just its pages
-  shows_so : (since : List DoorEntry) → own_entries by since ≡ map (page_entry by node inc) pages ++ [] → IsTrue (shows since)
+  pub shows_so : (since : List DoorEntry) → own_entries by since ≡ map (page_entry by node inc) pages ++ [] → IsTrue (shows since)
   shows_so since own =
       subst (λ (ps : List ScanPage). IsTrue (shows_commits commits ps)) (sym (own_pages who by since ∙ (ap (scan_pages who by records_prefix) own ∙ scans_alone by node inc pages)))
       (and_from _ _ whole (subst (λ (cs : List Commit). IsTrue (pointwise same_commit cs commits)) (shown ∙ sym (shown_on pages)) (all_same commits)))

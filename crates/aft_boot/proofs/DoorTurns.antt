@@ -16,7 +16,7 @@ use Rattle.aft_model.specs.declared.reply.Reply.TheVariants as replies
 use Rattle.aft_model.specs.Membership.{incarnation, is_up, up_now}
 use Rattle.aft_model.specs.NodeSights.{is_fenced}
 use Rattle.aft_model.specs.Sound.{records_prefix}
-use Rattle.aft_door.specs.Calls.{DoorView, Shows, told_page, with_entry}
+use Rattle.aft_door.specs.Calls.{DoorView, Shows, may_be_untold, told_page, with_entry}
 use Rattle.aft_door.specs.Entries.{called, came_up}
 use Rattle.aft_door.specs.Refusals.{RefusedBy, RefusedOrFailed, if_fenced, if_past, is_past}
 use Rattle.aft_door.specs.declared.fault.DoorFault.{DoorFault}
@@ -247,13 +247,13 @@ module _ (by : By) (node inc : ℕ) (after : List ℕ) (listed : ℕ) (commits :
     page_leads (ComesUp other) leads = absurd leads
     page_leads Ended leads = absurd leads
 
-  -- want of memory may hide any answer
-  memory_stops : (answer : KeeperAnswer) → StopsCall answer listed replies.NoMemory
-  memory_stops (answers.Page page) = tt
-  memory_stops (answers.Found bytes) = tt
-  memory_stops answers.Absent = tt
-  memory_stops answers.Done = tt
-  memory_stops answers.Failed = tt
+  -- want of memory may hide what was to be copied
+  memory_stops : (answer : KeeperAnswer) → IsTrue (may_be_untold (Some answer)) → StopsCall answer listed replies.NoMemory
+  memory_stops (answers.Page page) untold = tt
+  memory_stops (answers.Found bytes) untold = tt
+  memory_stops answers.Absent untold = tt
+  memory_stops answers.Done untold = tt
+  memory_stops answers.Failed untold = absurd (false≢true untold)
 
   module _ (may : may_call_at by node (Scans inc after listed commits) old.history) where
     fenced_so : is_up (incarnation node inc) old.history ≡ false → IsTrue (is_fenced (incarnation node inc) old.history)
@@ -268,9 +268,9 @@ module _ (by : By) (node inc : ℕ) (after : List ℕ) (listed : ℕ) (commits :
         by_up false why = no_fence why
 
     faulted : (fault : DoorFault) → RefusedOrFailed {T = List Pair} (if_fenced who old.history) (Err fault) → Shows told_page old who (Scan records_prefix after 64) (Err fault) new → StepsAtDoor by scans (made_at by node (stopped node inc fault)) old.history new.history
-    faulted faults.Failed why shows = stops_behind answers.Failed shows.history replies.StoreFault tt
+    faulted faults.Failed why shows = stops_behind answers.Failed shows.history replies.StoreFault refl
     faulted faults.Memory why (None, untold, asks) = stops_here replies.NoMemory asks.history (inr refl)
-    faulted faults.Memory why (Some answer, untold, asks) = stops_behind answer asks.history replies.NoMemory (memory_stops answer)
+    faulted faults.Memory why (Some answer, untold, asks) = stops_behind answer asks.history replies.NoMemory (memory_stops answer untold)
     faulted (faults.Fenced n i) why shows = stops_here (replies.NodeDown node inc) shows.history (inl (refl, fenced_so (by_up (is_up (incarnation node inc) old.history) refl why)))
       where
         by_up : (up : Bool) → is_up (incarnation node inc) old.history ≡ up → RefusedOrFailed {T = List Pair} (if up then None else Some (faults.Fenced node inc)) (Err (faults.Fenced n i)) → is_up (incarnation node inc) old.history ≡ false

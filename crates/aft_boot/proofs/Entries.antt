@@ -82,7 +82,7 @@ module _ (by : By) (node inc : ℕ) where
   abbrev pub page_entry : PageAt → DoorEntry
   page_entry page = record { by = by; act = page_act node inc page.after (Page page.listed) }
 
-  pages_entries : (pages : List PageAt) → flat_map (door_entry_in by) (map (page_turn node inc) pages) ≡ map page_entry pages
+  pub pages_entries : (pages : List PageAt) → flat_map (door_entry_in by) (map (page_turn node inc) pages) ≡ map page_entry pages
   pages_entries [] = refl
   pages_entries (page ∷ pages) = ap (λ (es : List DoorEntry). page_entry page ∷ es) (pages_entries pages)
 

@@ -1,10 +1,9 @@
 -- Where the turns of a start lead.
-use Rattle.std.proofs.Common.{◌≡◌, ◌+◌, ◌≤◌, ℕ, Bool, true, false, ◌&&◌, ◌||◌, not, List, [], ◌∷◌, ◌++◌, eqb, length, length-append, refl, sym, ap, subst, ◌∙◌, ◌⊎◌, inl, inr, append-nil, append_assoc, arith}
-use Rattle.std.specs.Prelude.{IsTrue, None, Option, Some, if◌then◌else◌, map, nat_le}
+use Rattle.std.proofs.Common.{◌≡◌, ◌+◌, ◌≤◌, ℕ, Bool, true, false, ◌&&◌, List, [], ◌∷◌, ◌++◌, eqb, length, refl, sym, ap, subst, ◌∙◌, ◌⊎◌, inl, inr, append-nil, append_assoc}
+use Rattle.std.specs.Prelude.{IsTrue, None, Option, Some, if◌then◌else◌, map}
 use Rattle.std.specs.List.{fold, list_all}
 use Rattle.std.specs.Str.{bytes_eq}
-use Rattle.std.proofs.lemmas.Bool.{and_from, and_parts, eq-eqb, false≢true, le-leb}
-use Rattle.std.proofs.lemmas.List.Folds.{list_all-append}
+use Rattle.std.proofs.lemmas.Bool.{and_from, and_parts, eq-eqb, false≢true}
 use Rattle.std.proofs.lemmas.List.Sums.{fold-append}
 use Rattle.aft_keeper.specs.declared.keeper.KeeperAnswer.{KeeperAnswer}
 use Rattle.aft_keeper.specs.declared.keeper.KeeperAnswer.TheVariants as answers
@@ -30,6 +29,7 @@ use Rattle.aft_lines.specs.ScanCourse.{names_limit, stops_at}
 use Rattle.aft_lines.specs.Turns.{AtDoor, Turn}
 use Rattle.aft_boot.specs.Booted.{AreRead, PageAt, begun_turns, listed_on, page_act, page_turn, scan_page, up_turns}
 use Rattle.aft_boot.specs.Crashed.{turn_at}
+use Rattle.aft_boot.proofs.PageRuns.{Fine, fine_all, fine_first, fine_rest, good}
 
 -- a scan of the records by an incarnation of a node, on its way
 abbrev pub scan_at : ℕ → ℕ → List ℕ → List Pair → Scanning
@@ -82,10 +82,6 @@ module _ (node inc : ℕ) (nodes : List ℕ) (ends_so : Ends) where
       by_answer answers.Done = inr (inr (false, refl))
       by_answer (answers.Found bytes) = inr (inr (false, refl))
 
-  -- a page that shows few enough names, each with a reading, doesn't stop the scan
-  good : (listed pairs : List Pair) → length listed + length pairs ≤ 20000 → IsTrue (list_all has_reading pairs) → stops_at names_limit listed pairs ≡ false
-  good listed pairs few readable = ap not (and_from (nat_le (length listed + length pairs) 20000) (false || list_all has_reading pairs) (le-leb (length listed + length pairs) 20000 few) readable)
-
   paged : (place : ℕ) (after : List ℕ) (listed pairs : List Pair) (position : Option Progress) → IsAt (scan_at node inc after listed) position → length listed + length pairs ≤ 20000 → IsTrue (list_all has_reading pairs)
       → step position (AtDoor place (page_act node inc after (answers.Page pairs))) ≡ Some (behind_boot_page (behind_name (scan_at node inc after listed) pairs (next_after (record { after = after; listed = pairs }))))
   paged place after listed pairs position at few readable =
@@ -96,22 +92,6 @@ module _ (node inc : ℕ) (nodes : List ℕ) (ends_so : Ends) where
 
   abbrev pub behind_pages : Option Progress → List PageAt → Option Progress
   behind_pages position pages = fold step position (map (page_turn node inc) pages)
-
-  -- what was read from a name on, behind what was listed
-  abbrev Fine : List Pair → List PageAt → Type 0
-  Fine listed pages = (length listed + length (listed_on pages) ≤ 20000) × IsTrue (list_all has_reading (listed_on pages))
-
-  fine_first : (listed : List Pair) (page : PageAt) (pages : List PageAt) → Fine listed (page ∷ pages) → (length listed + length page.listed ≤ 20000) × IsTrue (list_all has_reading page.listed)
-  fine_first listed page pages (few, readable) = (
-    let l = length-append page.listed (listed_on pages) in omega arith,
-    (and_parts (list_all has_reading page.listed) (list_all has_reading (listed_on pages)) (sym (list_all-append has_reading page.listed (listed_on pages)) ∙ readable)).0,
-  )
-
-  fine_rest : (listed : List Pair) (page : PageAt) (pages : List PageAt) → Fine listed (page ∷ pages) → Fine (listed ++ page.listed) pages
-  fine_rest listed page pages (few, readable) = (
-    let l = length-append page.listed (listed_on pages) in let m = length-append listed page.listed in omega arith,
-    (and_parts (list_all has_reading page.listed) (list_all has_reading (listed_on pages)) (sym (list_all-append has_reading page.listed (listed_on pages)) ∙ readable)).1,
-  )
 
   none_some : (name : List ℕ) → None ≡ Some name → ⊥
   none_some name e = cc
@@ -171,9 +151,6 @@ module _ (node inc : ℕ) (nodes : List ℕ) (ends_so : Ends) where
       by_next [] None its more rest = moves None its
       by_next (q ∷ others) None its more rest = absurd (false≢true more)
       by_next others (Some next) its more rest = rest next (moves (Some next) its) more
-
-  fine_all : (pages : List PageAt) → AreRead pages → Fine [] pages
-  fine_all pages read = (let few = read.few in omega arith, read.readable)
 
   -- ---- from the first turn on
 

@@ -1,9 +1,9 @@
 -- Pages that are read one behind the other.
-use Rattle.std.proofs.Common.{◌≡◌, ◌+◌, ℕ, Bool, true, false, ◌&&◌, List, [], ◌∷◌, ◌++◌, length, length-append, refl, sym, ap, subst, ◌∙◌, append-nil, append_assoc, arith}
-use Rattle.std.specs.Prelude.{IsTrue, None, Option, Some, if◌then◌else◌, map}
+use Rattle.std.proofs.Common.{◌≡◌, ◌+◌, ℕ, Bool, true, false, ◌&&◌, ◌||◌, ◌≤◌, not, List, [], ◌∷◌, ◌++◌, length, length-append, refl, sym, ap, subst, ◌∙◌, append-nil, append_assoc, arith}
+use Rattle.std.specs.Prelude.{IsTrue, None, Option, Some, if◌then◌else◌, map, nat_le}
 use Rattle.std.specs.List.{list_all}
 use Rattle.std.specs.Str.{bytes_eq}
-use Rattle.std.proofs.lemmas.Bool.{and_from}
+use Rattle.std.proofs.lemmas.Bool.{and_from, and_parts, le-leb}
 use Rattle.std.proofs.lemmas.List.{map-append}
 use Rattle.std.proofs.lemmas.List.Concat.{flat_map-append}
 use Rattle.std.proofs.lemmas.List.Folds.{list_all-append}
@@ -16,6 +16,7 @@ use Rattle.aft_model.specs.Readings.{has_reading, records_in}
 use Rattle.aft_model.specs.ScanRun.{ScanPage, ends, goes_on, is_scan_run, next_after}
 use Rattle.aft_model.specs.Sound.{recorded}
 use Rattle.aft_model.proofs.Sights.{bytes_eq-refl}
+use Rattle.aft_lines.specs.ScanCourse.{names_limit, stops_at}
 use Rattle.aft_lines.specs.Turns.{Turn}
 use Rattle.aft_boot.specs.Booted.{AreRead, PageAt, begun_turns, listed_on, page_turn, scan_page, up_turns}
 use Rattle.aft_boot.specs.Crashed.{turn_at}
@@ -85,3 +86,28 @@ module _ (pages : List PageAt) (page : PageAt) where
     where
       first : Turn
       first = turn_at by node before front (Booting inc) None
+
+-- ---- pages that don't stop a scan
+
+-- a page that shows few enough names, each with a reading, doesn't stop the scan
+pub good : (listed pairs : List Pair) → length listed + length pairs ≤ 20000 → IsTrue (list_all has_reading pairs) → stops_at names_limit listed pairs ≡ false
+good listed pairs few readable = ap not (and_from (nat_le (length listed + length pairs) 20000) (false || list_all has_reading pairs) (le-leb (length listed + length pairs) 20000 few) readable)
+
+-- what was read from a name on, behind what was listed
+abbrev pub Fine : List Pair → List PageAt → Type 0
+Fine listed pages = (length listed + length (listed_on pages) ≤ 20000) × IsTrue (list_all has_reading (listed_on pages))
+
+pub fine_first : (listed : List Pair) (page : PageAt) (pages : List PageAt) → Fine listed (page ∷ pages) → (length listed + length page.listed ≤ 20000) × IsTrue (list_all has_reading page.listed)
+fine_first listed page pages (few, readable) = (
+  let l = length-append page.listed (listed_on pages) in omega arith,
+  (and_parts (list_all has_reading page.listed) (list_all has_reading (listed_on pages)) (sym (list_all-append has_reading page.listed (listed_on pages)) ∙ readable)).0,
+)
+
+pub fine_rest : (listed : List Pair) (page : PageAt) (pages : List PageAt) → Fine listed (page ∷ pages) → Fine (listed ++ page.listed) pages
+fine_rest listed page pages (few, readable) = (
+  let l = length-append page.listed (listed_on pages) in let m = length-append listed page.listed in omega arith,
+  (and_parts (list_all has_reading page.listed) (list_all has_reading (listed_on pages)) (sym (list_all-append has_reading page.listed (listed_on pages)) ∙ readable)).1,
+)
+
+pub fine_all : (pages : List PageAt) → AreRead pages → Fine [] pages
+fine_all pages read = (let few = read.few in omega arith, read.readable)

@@ -48,9 +48,9 @@ StopsPage listed page (Damaged written) = (listed + length page ≤ 20000) × Is
 StopsPage listed page NoMemory = Unit {0}
 StopsPage listed page reply = ⊥
 
--- why an answered call stops it
+-- why an answered call stops it: a failure is always told; want of memory may hide what was to be copied
 abbrev pub StopsCall : KeeperAnswer → ℕ → Reply → Type 0
-StopsCall Failed listed StoreFault = Unit {0}
+StopsCall Failed listed reply = reply ≡ StoreFault
 StopsCall (Page page) listed reply = StopsPage listed page reply
 StopsCall answer listed NoMemory = Unit {0}
 StopsCall answer listed reply = ⊥

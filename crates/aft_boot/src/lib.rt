@@ -6,11 +6,18 @@
 mod boot;
 mod comings;
 mod crash;
+mod driving;
 mod fencing;
+mod opens;
 mod pages;
 mod reading;
 mod stage;
+#[cfg(test)]
+mod tests;
 mod turns;
+mod world;
 
 pub use boot::Boot;
 pub use crash::Crash;
+pub use opens::opening;
+pub use world::World;

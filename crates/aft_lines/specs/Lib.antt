@@ -28,6 +28,7 @@ pub mod CausesNodes
 pub mod Causes
 pub mod Views
 pub mod LegalTrace
+pub mod Opened
 pub mod RefusedTrace
 pub mod UpgradeTrace
 pub mod Headline

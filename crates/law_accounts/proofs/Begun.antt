@@ -29,6 +29,7 @@ use Rattle.aft_lines.specs.LegalTrace.{act_at, are_asks, begin_behind_opening, c
 use Rattle.aft_lines.specs.LineView.{LineView, ends_of}
 use Rattle.aft_lines.specs.Lines.{background, background_lines, lines, node_numbers, numbered, whole_order}
 use Rattle.aft_lines.specs.Makes.{makes}
+use Rattle.aft_lines.specs.Opened.{Opened}
 use Rattle.aft_lines.specs.RunsSoFar.{is_stopped_rightly}
 use Rattle.aft_lines.specs.Turns.{AtDoor, AtNode, AtOffice, Turn, door_turns, node_turns, nodes_turns, office_turns, turns, with_turn}
 use Rattle.aft_lines.specs.Views.{view_of}
@@ -42,7 +43,6 @@ use Rattle.law_runs.proofs.Reading.{is_of_boot, reads_alone}
 use Rattle.law_steps.specs.OneList.{entries_of}
 use Rattle.law_accounts.proofs.Lists.{all_so}
 use Rattle.law_accounts.specs.Account.{Account, GoesAlong, IsDone, Stand, Waits, has_made_nothing}
-use Rattle.law_accounts.specs.Opened.{Opened}
 
 -- ---- lists
 

@@ -2,4 +2,3 @@ pub mod Account
 pub mod Adding
 pub mod Turned
 pub mod Next
-pub mod Opened

@@ -19,6 +19,7 @@ ghost use Rattle.aft_lines.specs.FinishedText.{line_of};
 ghost use Rattle.aft_lines.specs.LegalTrace.{LegalTrace, are_asks};
 ghost use Rattle.aft_lines.specs.Lines.{begins, hold_after, hold_before, lines};
 ghost use Rattle.aft_lines.specs.Makes.{makes};
+ghost use Rattle.aft_lines.specs.Opened.{Opened};
 ghost use Rattle.aft_lines.specs.Progress.{Progress};
 ghost use Rattle.aft_lines.specs.RunsSoFar.{RunsSoFar, is_stopped_rightly, position_of};
 ghost use Rattle.aft_lines.specs.Turns.{turns, AtNode};
@@ -33,7 +34,6 @@ ghost use Rattle.law_turns.specs.Order.{give_nothing_up, moments_ascend, tie_in_
 ghost use Rattle.law_accounts.specs.Account.{Account, IsDone, MayGoOn, NoneCollects, Stand, StandsBehind, Waits};
 ghost use Rattle.law_accounts.specs.Adding.{Added, AddsAtNode, ComesAsOrdered, Follows, maker_of, numbered_in, with_added};
 ghost use Rattle.law_accounts.specs.Next.{ComesNext, IsFirst};
-ghost use Rattle.law_accounts.specs.Opened.{Opened};
 ghost use Rattle.law_accounts.specs.Turned.{comes_after, has_node, is_at_node_or_door, turned_by};
 
 /// A run that has an account is a run so far.
