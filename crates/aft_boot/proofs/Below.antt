@@ -10,7 +10,7 @@ use Rattle.aft_model.specs.declared.door.DoorAct.{DoorAct}
 use Rattle.aft_model.specs.declared.door.DoorAct.TheVariants as doors
 use Rattle.aft_model.specs.declared.door.DoorEntry.{DoorEntry}
 use Rattle.aft_model.specs.Membership.{Incarnation, fenced, fenced_in, incarnation, is_up, same_incarnation, the_office, up_after, ups}
-use Rattle.aft_model.specs.NodeSights.{comes_up, is_fenced}
+use Rattle.aft_model.specs.NodeSights.{comes_up}
 use Rattle.aft_model.proofs.OneCommit.{same_itself}
 use Rattle.aft_door.specs.Refusals.{is_past}
 use Rattle.aft_boot.specs.Booted.{PageAt}
@@ -61,9 +61,6 @@ none_fenced node (entry ∷ door) all =
 
 pub none_past : (node number inc : ℕ) (door : List DoorEntry) → AllBelow node door → is_past number inc door ≡ false
 none_past node number inc door all = ap (λ (whos : List Incarnation). list_any (λ other. eqb other.node number && nat_le inc other.inc) whos) (none_fenced node door all)
-
-pub not_fenced : (node : ℕ) (who : Incarnation) (door : List DoorEntry) → AllBelow node door → is_fenced who door ≡ false
-not_fenced node who door all = ap (λ (whos : List Incarnation). list_any (same_incarnation who) whos) (none_fenced node door all)
 
 -- ---- and who is up is of a lesser node
 

@@ -1,7 +1,7 @@
 -- What one call behind the other leaves of the store and of the count of its failures.
 use Rattle.std.proofs.Common.{◌≡◌, ◌≤◌, ℕ, ltb, List, sym, subst, ◌∙◌, inl, inr, arith}
 use Rattle.std.specs.Prelude.{Err, IfErr, IsErr, IsErrAnd, IsFalse, IsTrue, MatchResult, Ok, Result}
-use Rattle.std.proofs.lemmas.Bool.{cases_Bool, false≢true, ltb-false, ltb-true, true≢false}
+use Rattle.std.proofs.lemmas.Bool.{cases_Bool, false≢true, ltb-false, ltb-true}
 use Rattle.aft_audit.specs.declared.fault.AuditFault.{AuditFault}
 use Rattle.aft_keeper.specs.Cause.{HasCause, Rose}
 use Rattle.aft_model.specs.declared.door.DoorEntry.{DoorEntry}
@@ -39,10 +39,6 @@ cause_behind a b f g h works up cause = record {
   never_falls = let on = cause.never_falls in omega arith;
   rose = λ fails. rose_before f g h (cause.rose (fails, works)) up;
 }
-
--- nothing was asked
-pub no_cause : (a : List DoorEntry) (f : ℕ) → HasCause (FailsNewly a a) f f
-no_cause a f = record { never_falls = omega arith; rose = λ fails. absurd (true≢false (sym fails.0 ∙ fails.1)) }
 
 pub stores_chain : (a b c : DoorView) → SameStore a b → SameStore b c → SameStore a c
 stores_chain a b c first second = record { contents = second.contents ∙ first.contents; log = second.log ∙ first.log }

@@ -1,5 +1,5 @@
 -- What a first boot's machine asks of its next turn stands where the opening drives it.
-use Rattle.std.proofs.Common.{◌≡◌, ◌-◌, ◌≤◌, ℕ, suc, Bool, true, false, ◌&&◌, ◌||◌, not, List, [], ◌∷◌, ◌++◌, eqb, length, refl, sym, ap, subst, ◌∙◌, inl, inr, append-nil, arith}
+use Rattle.std.proofs.Common.{◌≡◌, ◌≤◌, ℕ, suc, Bool, true, false, ◌&&◌, ◌||◌, not, List, [], ◌∷◌, ◌++◌, eqb, length, refl, sym, ap, subst, ◌∙◌, inl, inr, append-nil, arith}
 use Rattle.std.specs.Prelude.{IsTrue, None, Option, Some, map, nat_le}
 use Rattle.std.specs.List.{flat_map, fold}
 use Rattle.std.proofs.lemmas.Bool.{and_from, and_parts, eq-eqb, eqb-true, false≢true, or_cases, or_left, or_right}
@@ -15,7 +15,7 @@ use Rattle.aft_model.specs.declared.node.NodeAct.TheVariants as acts
 use Rattle.aft_model.specs.declared.node.NodeEntry.{NodeEntry}
 use Rattle.aft_model.specs.declared.reply.Reply.{Reply}
 use Rattle.aft_model.specs.DoorKnowledge.{is_open, opens}
-use Rattle.aft_model.specs.LegalNode.{LegalNode, front as front_of, may_follow_at}
+use Rattle.aft_model.specs.LegalNode.{LegalNode, may_follow_at}
 use Rattle.aft_model.specs.Membership.{incarnation, is_up}
 use Rattle.aft_model.specs.NodeState.{boots, node_state}
 use Rattle.aft_model.specs.Opening.{has_failed, is_failure, opening}
@@ -26,10 +26,9 @@ use Rattle.aft_node.specs.Closing.{MayClose, act_passes, last_own, opens_boot}
 use Rattle.aft_node.specs.declared.goes.BootEnd.{BootEnd}
 use Rattle.aft_node.specs.declared.goes.BootEnd.TheVariants.{Refused, Shown}
 use Rattle.aft_boot.specs.Booted.{HasBegun, HasComeUp, IsScanning, IsToEnd, Made, PageAt, StopsAt, begun_turns, listed_on, made_at, may_call_at, may_close_at, may_end_at, page_act, page_turn, told_fault_at, up_turns}
-use Rattle.aft_boot.specs.BootView.{BootView, left_at, left_of, next_at}
+use Rattle.aft_boot.specs.BootView.{BootView, next_at}
 use Rattle.aft_boot.specs.Crashed.{turn_at}
 use Rattle.aft_boot.specs.Driving.{Drives, node_entry_in, room_behind}
-use Rattle.aft_boot.specs.FirstBoots.{IsReadyFor}
 use Rattle.aft_boot.specs.Pages.{StopsCall}
 use Rattle.aft_boot.specs.declared.stage.Stage.{Stage}
 use Rattle.aft_boot.specs.declared.stage.Stage.TheVariants.{Begins, ComesUp, Ended, Ends, Scans}
@@ -38,7 +37,7 @@ use Rattle.aft_boot.proofs.Chains.{FailsNewly}
 use Rattle.aft_boot.proofs.Drives.{none_at_node}
 use Rattle.aft_boot.proofs.Entries.{AreDoor, both_door, entries_of, page_entry, pages_door, up_door, up_entries}
 use Rattle.aft_turns.specs.Steps.{StepsAtDoor}
-use Rattle.aft_turns.specs.Trail.{Trail, behind, no_trail}
+use Rattle.aft_turns.specs.Trail.{Trail, behind}
 use Rattle.aft_turns.specs.declared.turn.Where.TheVariants as places
 
 -- ---- one that began a boot
@@ -190,16 +189,6 @@ module _ (start : List DoorEntry) (capacity lines : ℕ) (boot : BootView) (node
   may_call_now legal (Ends inc end) made = tt
   may_call_now legal Ended made = tt
 
--- ---- where it is
-
--- with no turn left it is over
-pub is_over : (by : By) (node : ℕ) (stage : Stage) (trail : Trail) → made_at by node stage trail → left_at stage ≡ 0 → stage ≡ Ended
-is_over by node Begins trail made none = absurd (omega arith)
-is_over by node (ComesUp inc) trail made none = absurd (omega arith)
-is_over by node (Scans inc after listed commits) trail made none = let count = made.count in let few = made.read.few in absurd (omega arith)
-is_over by node (Ends inc end) trail made none = absurd (omega arith)
-is_over by node Ended trail made none = refl
-
 -- ---- a call that failed
 
 abbrev fails : Turn → Bool
@@ -262,37 +251,3 @@ cause_at_door boot later trail old new before now made steps cause = record { ne
             ∙ sym (ap has_failed grown)
             ∙ fails
             )) [ inl it ↦ it | inr never ↦ absurd (false≢true never) ]
-
--- ---- the first and the last turn
-
--- nothing is done yet
-pub drives_first : (door : List DoorEntry) (boot : BootView) (node : NodeView) (number : ℕ) → boot.by ≡ opening → boot.node ≡ number → Made boot no_trail → node.number ≡ number → 1 ≤ number → node.history ≡ [] → node.front ≡ 0 → 1 ≤ node.room → IsReadyFor number door → Drives door node.capacity (node.room - 1) boot node door
-drives_first door boot node number by its made here some nothing front room ready = record {
-  ready = subst (λ (n : ℕ). IsReadyFor n door) (sym here) ready;
-  trail = no_trail;
-  made = made;
-  by = by;
-  number = its ∙ sym here;
-  some = omega arith;
-  capacity_is = refl;
-  front_is = front ∙ sym (ap front_of nothing);
-  seen = omega arith;
-  room = one_more node.room room ∙ sym (ap (room_behind (node.room - 1)) nothing);
-  door_is = sym (append-nil door);
-  history_is = nothing;
-  placed = tt;
-  looked = (door, refl);
-}
-  where
-    one_more : (n : ℕ) → 1 ≤ n → n ≡ suc (n - 1)
-    one_more n some = omega arith
-
-abbrev view : By → ℕ → Stage → BootView
-view by node stage = record { by = by; node = node; stage = stage }
-
--- none is left
-pub drives_last : (start : List DoorEntry) (capacity lines number : ℕ) (boot : BootView) (node : NodeView) (door : List DoorEntry) → Drives start capacity lines boot node door → boot.node ≡ number → left_of boot ≡ 0 → Drives start capacity lines (record { by = opening; node = number; stage = Ended }) node door
-drives_last start capacity lines number boot node door drives its none = subst (λ (b : BootView). Drives start capacity lines b node door) (same boot drives.by its (is_over boot.by boot.node boot.stage drives.trail drives.made none)) drives
-  where
-    same : (b : BootView) → b.by ≡ opening → b.node ≡ number → b.stage ≡ Ended → b ≡ view opening number Ended
-    same b by node stage = ap (λ (x : By). view x b.node b.stage) by ∙ ap (λ (n : ℕ). view opening n b.stage) node ∙ ap (λ (s : Stage). view opening number s) stage
