@@ -3,6 +3,7 @@
 ghost use Rattle.std.specs.Prelude.{◌≡◌, ◌≢◌, ◌≤◌, ◌<◌, ℕ, IsTrue, List};
 ghost use Rattle.aft_begin.specs.Made.{Made, MayCall, MayEnd, may_close, told_fault};
 ghost use Rattle.aft_begin.specs.View.{hold_of, left_of, next_of};
+ghost use Rattle.aft_begin.specs.declared.aim.Aim.TheVariants as aims;
 ghost use Rattle.aft_keeper.specs.Cause.{HasCause};
 ghost use Rattle.aft_lines.specs.LineCourse.{answers_last};
 ghost use Rattle.aft_lines.specs.LineView.{LineView};
@@ -126,6 +127,7 @@ impl Begin {
         ensures going { next_of self.now ≢ places.Done → 1 ≤ left_of self.now }
         ensures gives { (trail : Trail) → Made self.now trail → next_of self.now ≡ places.Done → attempt_of trail.turns ≡ (hold_of self.now).attempt }
         ensures sees { (trail : Trail) (seen : List DoorEntry) → Made self.now trail → SeesOwn self.now.by trail.turns seen → IsTrue (last_sees seen trail.turns) }
+        ensures aim { self.now.aim ≡ aims.Begin }
     {
         self.line.so_far();
     }

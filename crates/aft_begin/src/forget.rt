@@ -3,6 +3,7 @@
 ghost use Rattle.std.specs.Prelude.{◌≡◌, ◌≢◌, ◌≤◌, ◌<◌, ℕ, IsTrue, List};
 ghost use Rattle.aft_begin.specs.Made.{Knows, Made, MayCall, MayEnd, may_close, told_fault};
 ghost use Rattle.aft_begin.specs.View.{left_of, next_of};
+ghost use Rattle.aft_begin.specs.declared.aim.Aim.TheVariants as aims;
 ghost use Rattle.aft_keeper.specs.Cause.{HasCause};
 ghost use Rattle.aft_lines.specs.LineCourse.{answers_last};
 ghost use Rattle.aft_lines.specs.LineView.{LineView};
@@ -116,6 +117,7 @@ impl Forget {
         ensures going { next_of self.now ≢ places.Done → 1 ≤ left_of self.now }
         ensures sees { (trail : Trail) (seen : List DoorEntry) → Made self.now trail → SeesOwn self.now.by trail.turns seen → IsTrue (last_sees seen trail.turns) }
         ensures knows { (trail : Trail) (seen : List DoorEntry) → Made self.now trail → SeesOwn self.now.by trail.turns seen → Knows self.now seen }
+        ensures aim { self.now.aim ≡ aims.Forget }
     {
         self.line.so_far();
     }

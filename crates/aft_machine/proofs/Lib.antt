@@ -3,3 +3,4 @@ mod Promised
 mod PutCaused
 mod PutStands
 mod PutTurn
+mod StarvedStands

@@ -1,5 +1,5 @@
 -- What stands of a put by the turns that it has made.
-use Rattle.std.proofs.Common.{◌≡◌, ℕ, ◌≤◌, Bool, true, false, List, [], ◌∷◌, refl, sym, ap, subst, inl, inr, arith}
+use Rattle.std.proofs.Common.{◌≡◌, ◌≢◌, ℕ, ◌≤◌, Bool, true, false, List, [], ◌∷◌, refl, sym, ap, subst, inl, inr, arith}
 use Rattle.std.specs.Prelude.{IsTrue, Option, Some, None, is_some}
 use Rattle.std.proofs.lemmas.Bool.{and_from, eq-eqb}
 use Rattle.aft_model.specs.declared.caller.Attempt.{Attempt}
@@ -16,6 +16,7 @@ use Rattle.aft_model.proofs.Sights.{bytes_eq-refl}
 use Rattle.aft_lines.specs.Advance.{if_so, is_led_to_end}
 use Rattle.aft_lines.specs.LegalTrace.{act_of, node_words}
 use Rattle.aft_lines.specs.LineCourse.{puts_or_answers}
+use Rattle.aft_lines.specs.LineCourse.{answers_last}
 use Rattle.aft_lines.specs.LineView.{LineView}
 use Rattle.aft_lines.specs.Makes.{puts_at_node}
 use Rattle.aft_lines.specs.Progress.{IsOver}
@@ -111,6 +112,14 @@ module _ (by : By) (hold : Hold) (key value : List ℕ) where
   pub ends_so : (stage : Stage) (capacity : ℕ) (trail : Trail) (view : LineView) → made_at by hold key value stage trail → RanSo (commands.Put key value) hold capacity trail view → next_at hold.node stage ≡ places.Done → EndsRightly view
   ends_so (Begins asked given) capacity trail view made ran done = absurd cc
   ends_so Ended capacity trail view it ran done = by_turns EndsRightly capacity trail view _ ran it.turns (ends it.before it.front view it.act it.answer it.puts)
+
+  pub answers_so : (stage : Stage) (trail : Trail) → made_at by hold key value stage trail → next_at hold.node stage ≡ places.Done → IsTrue (answers_last trail.turns)
+  answers_so (Begins asked given) trail made done = absurd cc
+  answers_so Ended trail it done = subst (λ (ts : List Turn). IsTrue (answers_last ts)) (sym it.turns) (some_answer it.before it.front it.act it.answer it.puts)
+
+  pub going_so : (stage : Stage) → next_at hold.node stage ≢ places.Done → 1 ≤ left_at stage
+  going_so (Begins asked given) on = omega arith
+  going_so Ended on = absurd (on refl)
 
   pub sees_so : (stage : Stage) (trail : Trail) (seen : List DoorEntry) → made_at by hold key value stage trail → IsTrue (last_sees seen trail.turns)
   sees_so (Begins asked given) trail seen (same_key, same_value, none) = subst (λ (ts : List Turn). IsTrue (last_sees seen ts)) (sym (ap (λ (t : Trail). t.turns) none)) refl

@@ -7,7 +7,7 @@ use Rattle.aft_boot.specs.Booted as boots
 use Rattle.aft_commit.specs.Asks as finishes
 use Rattle.aft_commit.specs.View as finishing
 use Rattle.aft_machine.specs.declared.machine.Machine.{Machine}
-use Rattle.aft_machine.specs.declared.machine.Machine.TheVariants.{Begin, Crash, Finish, Forget, Put, Read, Start}
+use Rattle.aft_machine.specs.declared.machine.Machine.TheVariants.{Begin, Finish, Forget, Put, Read, Starve, Crash, Start}
 use Rattle.aft_read.specs.Made as reads
 
 -- ---- what is asked of the caller
@@ -19,6 +19,7 @@ may_close (Forget line hold) history = begins.may_close line history
 may_close (Read line) history = reads.may_close line history
 may_close (Finish line) history = finishes.may_close line history
 may_close (Put line) history = Unit {0}
+may_close (Starve line) history = Unit {0}
 may_close (Crash line hold) history = Unit {0}
 may_close (Start line hold) history = boots.may_close line history
 
@@ -42,6 +43,7 @@ MayEnd now clock (Forget line hold) history = begins.MayEnd line history
 MayEnd now clock (Read line) history = reads.MayEnd line history
 MayEnd now clock (Finish line) history = finishing.ReadsClock line now clock × finishes.MayEnd line history
 MayEnd now clock (Put line) history = Unit {0}
+MayEnd now clock (Starve line) history = Unit {0}
 MayEnd now clock (Crash line hold) history = Unit {0}
 MayEnd now clock (Start line hold) history = boots.MayEnd line history
 
@@ -52,6 +54,7 @@ MayCall (Forget line hold) history = begins.MayCall line history
 MayCall (Read line) history = reads.HasComeUp line history
 MayCall (Finish line) history = finishes.MayCall line history
 MayCall (Put line) history = Unit {0}
+MayCall (Starve line) history = Unit {0}
 MayCall (Crash line hold) history = Unit {0}
 MayCall (Start line hold) history = boots.MayCall line history
 
@@ -69,5 +72,6 @@ told_fault old (Forget line hold) = begins.told_fault line
 told_fault old (Read line) = reads.told_fault line
 told_fault old (Finish line) = finish_failed old line
 told_fault old (Put line) = false
+told_fault old (Starve line) = false
 told_fault old (Crash line hold) = false
 told_fault old (Start line hold) = boots.told_fault line

@@ -1,5 +1,5 @@
 -- Any machine of a line that keeps to one node and the door: its line, how far it has come, and what it has made.
-use Rattle.std.specs.Prelude.{Bool, List, false, length, true, ℕ, ◌≡◌, ◌≢◌, ◌≤◌}
+use Rattle.std.specs.Prelude.{Bool, IsTrue, List, false, length, true, ℕ, ◌≡◌, ◌≤◌, ◌≢◌}
 use Rattle.aft_model.specs.declared.caller.By.{By}
 use Rattle.aft_model.specs.declared.caller.Hold.{Hold}
 use Rattle.aft_model.specs.declared.script.Command.{Command}
@@ -8,6 +8,7 @@ use Rattle.aft_lines.specs.Lines.{attempt_of}
 use Rattle.aft_lines.specs.Turns.{Turn}
 use Rattle.aft_begin.specs.Made as begins
 use Rattle.aft_begin.specs.View as claims
+use Rattle.aft_begin.specs.declared.aim.Aim.TheVariants as aims
 use Rattle.aft_boot.specs.Booted as boots
 use Rattle.aft_boot.specs.BootView as booting
 use Rattle.aft_boot.specs.CrashView as crashing
@@ -16,8 +17,9 @@ use Rattle.aft_commit.specs.Made as finishes
 use Rattle.aft_commit.specs.View as finishing
 use Rattle.aft_machine.specs.PutMade as puts
 use Rattle.aft_machine.specs.PutView as putting
+use Rattle.aft_machine.specs.Starved as starved
 use Rattle.aft_machine.specs.declared.machine.Machine.{Machine}
-use Rattle.aft_machine.specs.declared.machine.Machine.TheVariants.{Begin, Crash, Finish, Forget, Put, Read, Start}
+use Rattle.aft_machine.specs.declared.machine.Machine.TheVariants.{Begin, Finish, Forget, Put, Read, Starve, Crash, Start}
 use Rattle.aft_read.specs.Made as reads
 use Rattle.aft_read.specs.View as reading
 use Rattle.aft_turns.specs.Trail.{Trail}
@@ -45,6 +47,7 @@ by_of (Forget line hold) = line.by
 by_of (Read line) = line.by
 by_of (Finish line) = line.by
 by_of (Put line) = line.by
+by_of (Starve line) = line.by
 by_of (Crash line hold) = line.by
 by_of (Start line hold) = line.by
 
@@ -55,6 +58,7 @@ command_of (Forget line hold) = commands.Forget line.uuid line.node
 command_of (Read line) = commands.Get line.key
 command_of (Finish line) = finishes.command_of line.aborts
 command_of (Put line) = commands.Put line.key line.value
+command_of (Starve line) = line.command
 command_of (Crash line hold) = commands.Crash line.node
 command_of (Start line hold) = commands.Start line.node
 
@@ -65,8 +69,16 @@ Holds (Forget line hold) held = hold ≡ held
 Holds (Read line) held = line.hold ≡ held
 Holds (Finish line) held = line.hold ≡ held
 Holds (Put line) held = line.hold ≡ held
+Holds (Starve line) held = line.hold ≡ held
 Holds (Crash line hold) held = hold ≡ held
 Holds (Start line hold) held = hold ≡ held
+
+-- a begin claims its UUID to begin, and a forget to forget; and what starves is a put or a get
+abbrev pub AimsSo : Machine → Type 0
+AimsSo (Begin line) = line.aim ≡ aims.Begin
+AimsSo (Forget line hold) = line.aim ≡ aims.Forget
+AimsSo (Starve line) = IsTrue (starved.is_copied line.command)
+AimsSo machine = Unit {0}
 
 -- what its client holds behind it: what a begin gives, or else what it held before
 abbrev pub hold_behind : Machine → Hold
@@ -75,6 +87,7 @@ hold_behind (Forget line hold) = hold
 hold_behind (Read line) = line.hold
 hold_behind (Finish line) = line.hold
 hold_behind (Put line) = line.hold
+hold_behind (Starve line) = line.hold
 hold_behind (Crash line hold) = hold
 hold_behind (Start line hold) = hold
 
@@ -87,6 +100,7 @@ next_of (Forget line hold) = claims.next_of line
 next_of (Read line) = reading.next_of line
 next_of (Finish line) = finishing.next_of line
 next_of (Put line) = putting.next_of line
+next_of (Starve line) = starved.next_of line
 next_of (Crash line hold) = crashing.next_of line
 next_of (Start line hold) = booting.next_of line
 
@@ -97,6 +111,7 @@ left_of (Forget line hold) = claims.left_of line
 left_of (Read line) = reading.left_of line
 left_of (Finish line) = finishing.left_of line
 left_of (Put line) = putting.left_of line
+left_of (Starve line) = starved.left_of line
 left_of (Crash line hold) = crashing.left_of line
 left_of (Start line hold) = booting.left_of line
 
@@ -117,6 +132,7 @@ made_of capacity clock (Forget line hold) trail = begins.Made line trail
 made_of capacity clock (Read line) trail = reads.Made capacity line trail
 made_of capacity clock (Finish line) trail = finishes.Made clock line trail
 made_of capacity clock (Put line) trail = puts.Made line trail
+made_of capacity clock (Starve line) trail = starved.Made line trail
 made_of capacity clock (Crash line hold) trail = crashes.Made line trail
 made_of capacity clock (Start line hold) trail = boots.Made line trail
 

@@ -4,6 +4,8 @@
 mod buffering;
 mod machine;
 mod putting;
+mod starved;
 
 pub use machine::Machine;
 pub use putting::Putting;
+pub use starved::Starved;

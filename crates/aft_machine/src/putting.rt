@@ -1,7 +1,8 @@
 //! A put.
 
 ghost use Rattle.std.specs.Option.{ForSome};
-ghost use Rattle.std.specs.Prelude.{◌≡◌, ◌≤◌, ◌<◌, ℕ, IsTrue, List, length};
+ghost use Rattle.std.specs.Prelude.{◌≡◌, ◌≢◌, ◌≤◌, ◌<◌, ℕ, IsTrue, List, length};
+ghost use Rattle.aft_lines.specs.LineCourse.{answers_last};
 ghost use Rattle.aft_lines.specs.LineView.{LineView};
 ghost use Rattle.aft_machine.specs.PutMade.{Made};
 ghost use Rattle.aft_machine.specs.PutView.{left_of, next_of};
@@ -117,6 +118,8 @@ impl Putting {
         ensures goes { (capacity : ℕ) (trail : Trail) (view : LineView) → Made self.now trail → RanSo (commands.Put self.now.key self.now.value) self.now.hold capacity trail view → GoesRightly view }
         ensures unanswered { (capacity : ℕ) (trail : Trail) (view : LineView) → Made self.now trail → RanSo (commands.Put self.now.key self.now.value) self.now.hold capacity trail view → 1 ≤ left_of self.now → IsUnanswered view }
         ensures ends { (capacity : ℕ) (trail : Trail) (view : LineView) → Made self.now trail → RanSo (commands.Put self.now.key self.now.value) self.now.hold capacity trail view → next_of self.now ≡ places.Done → EndsRightly view }
+        ensures answers { (trail : Trail) → Made self.now trail → next_of self.now ≡ places.Done → IsTrue (answers_last trail.turns) }
+        ensures going { next_of self.now ≢ places.Done → 1 ≤ left_of self.now }
         ensures sees { (trail : Trail) (seen : List DoorEntry) → Made self.now trail → IsTrue (last_sees seen trail.turns) }
     {}
 }
