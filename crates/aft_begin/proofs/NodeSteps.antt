@@ -1,6 +1,7 @@
 -- What the turns at its node of a line that claims a UUID make of it.
 use Rattle.std.proofs.Common.{◌≡◌, ◌<◌, ◌⊎◌, arith, ℕ, Bool, true, false, ◌&&◌, ◌||◌, not, List, [], ◌∷◌, ◌++◌, refl, sym, ap, subst, ◌∙◌, inl, inr}
 use Rattle.std.specs.Prelude.{IfSome, IsTrue, None, Option, Some, if◌then◌else◌, max}
+use Rattle.std.specs.Option.{ForSome}
 use Rattle.std.specs.Str.{bytes_eq}
 use Rattle.std.proofs.lemmas.Bool.{and_parts, eq-eqb, false≢true, or_cases}
 use Rattle.aft_keeper.specs.declared.keeper.KeeperAnswer.TheVariants.{Absent}
@@ -18,7 +19,7 @@ use Rattle.aft_ledger.specs.Turns.{is_doing}
 use Rattle.aft_ledger.specs.View.{NodeView, after_entry, answered}
 use Rattle.aft_lines.specs.LineView.{has_left}
 use Rattle.aft_lines.specs.Turns.{Turn}
-use Rattle.aft_node.specs.Beginning.{admit_refusal, admitted_done, admitted_go, begin_refusal_by, begun, forget_refusal_by, found_row, joined_go, next_attempt, refused_go, serving_inc}
+use Rattle.aft_node.specs.Beginning.{admit_refusal, admitted_done, admitted_go, attempt_of, begin_refusal_by, begun, forget_refusal_by, found_row, joined_go, next_attempt, refused_go, serving_inc}
 use Rattle.aft_node.specs.Outcomes.{Leads, down_reply}
 use Rattle.aft_node.specs.declared.goes.AdmitGo.{AdmitGo}
 use Rattle.aft_node.specs.declared.goes.AdmitGo.TheVariants as goes
@@ -68,6 +69,25 @@ admission_left Forget (goes.Joined a) = omega arith
 admission_left Begin goes.Answered = omega arith
 admission_left Forget goes.Answered = omega arith
 
+gives_none : (node : ℕ) → ForSome None (λ (a : Attempt). a.node ≡ node)
+gives_none node a is = absurd cc
+
+-- an attempt that a begin joins is of its node
+joined_own : (uuid : List ℕ) (old : NodeView) (serving : Option Service) → ForSome (given_by (refused_go uuid old serving)) (λ a. a.node ≡ old.number)
+joined_own uuid old None = gives_none old.number
+joined_own uuid old (Some serving) = by_row (found_row uuid old)
+  where
+    by_row : (row : Option Row) → ForSome (given_by (joined_go old row)) (λ a. a.node ≡ old.number)
+    by_row None = gives_none old.number
+    by_row (Some row) = by_opening (is_opening row.state)
+      where
+        by_opening : (opens : Bool) → ForSome (given_by (if opens then goes.Answered else goes.Joined (attempt_of old row))) (λ a. a.node ≡ old.number)
+        by_opening true = gives_none old.number
+        by_opening false = λ a is. ap (λ (x : Attempt). x.node) (sym (one (attempt_of old row) a is))
+          where
+            one : (x y : Attempt) → Some x ≡ Some y → x ≡ y
+            one x y e = cc
+
 module _ (handed : ℕ) (by : By) (uuid : List ℕ) (old new : NodeView) (legal : LegalNode old.number old.capacity old.history) where
   abbrev pub AdmitStep : Aim → Stage → Type 0
   AdmitStep aim stage = StepsAtNode by handed (made_at aim by old.number uuid Begins) (made_at aim by old.number uuid stage) old new × FitsAt aim old.number uuid stage
@@ -76,8 +96,8 @@ module _ (handed : ℕ) (by : By) (uuid : List ℕ) (old new : NodeView) (legal 
   first_of_all trail turn none = ap (λ (t : Trail). t.turns ++ turn ∷ []) none
 
   -- it answers at once
-  answered_step : (aim : Aim) (reply : Reply) (given : Option Attempt) → new ≡ answered handed by reply old → AnswersAtOnce aim old.number uuid old.history reply given → AdmitStep aim (Ended given)
-  answered_step aim reply given made answers = (
+  answered_step : (aim : Aim) (reply : Reply) (given : Option Attempt) → new ≡ answered handed by reply old → AnswersAtOnce aim old.number uuid old.history reply given → ForSome given (λ a. a.node ≡ old.number) → AdmitStep aim (Ended given)
+  answered_step aim reply given made answers own = (
     (
       acts.Nothing,
       Some reply,
@@ -92,7 +112,7 @@ module _ (handed : ℕ) (by : By) (uuid : List ℕ) (old new : NodeView) (legal 
         answers = answers;
       }),
     ),
-    tt,
+    own,
   )
 
   -- or its attempt is admitted
@@ -118,7 +138,7 @@ module _ (handed : ℕ) (by : By) (uuid : List ℕ) (old new : NodeView) (legal 
   -- where nothing refuses it
   free_step : (aim : Aim) (why : ℕ → ℕ → List ℕ → Option Row → Option Reply) (go : AdmitGo) → AnswersAtOnce aim old.number uuid old.history replies.NoMemory None → admit_refusal why uuid old (service old.history) ≡ None → Leads handed by goes.Answered None (admitted_done handed by uuid old) (admitted_go by old) old new go → AdmitStep aim (behind_admission go)
   free_step aim why go lacks is (inl (made, went)) = subst (AdmitStep aim) (sym (ap behind_admission went)) (admitted_step aim made (serves_so why uuid old (node_state old.history) is))
-  free_step aim why go lacks is (inr (made, went)) = subst (AdmitStep aim) (sym (ap behind_admission went)) (answered_step aim replies.NoMemory None made lacks)
+  free_step aim why go lacks is (inr (made, went)) = subst (AdmitStep aim) (sym (ap behind_admission went)) (answered_step aim replies.NoMemory None made lacks (gives_none old.number))
 
   pub admit_step : (go : AdmitGo)
       → IfSome (admit_refusal begin_refusal_by uuid old (service old.history)) (λ reply. (new ≡ answered handed by reply old) × (go ≡ refused_go uuid old (service old.history)))
@@ -127,14 +147,14 @@ module _ (handed : ℕ) (by : By) (uuid : List ℕ) (old new : NodeView) (legal 
   admit_step go refused free = by_refusal (admit_refusal begin_refusal_by uuid old (service old.history)) refl refused free
     where
       by_refusal : (why : Option Reply) → admit_refusal begin_refusal_by uuid old (service old.history) ≡ why → IfSome why (λ reply. (new ≡ answered handed by reply old) × (go ≡ refused_go uuid old (service old.history))) → (why ≡ None → Leads handed by goes.Answered None (admitted_done handed by uuid old) (admitted_go by old) old new go) → AdmitStep Begin (behind_admission go)
-      by_refusal (Some reply) is (made, went) free = subst (AdmitStep Begin) (sym (ap behind_admission went ∙ refused_over uuid old (service old.history))) (answered_step Begin reply (given_by (refused_go uuid old (service old.history))) made (inr (is, refl)))
+      by_refusal (Some reply) is (made, went) free = subst (AdmitStep Begin) (sym (ap behind_admission went ∙ refused_over uuid old (service old.history))) (answered_step Begin reply (given_by (refused_go uuid old (service old.history))) made (inr (is, refl)) (joined_own uuid old (service old.history)))
       by_refusal None is refused leads = free_step Begin begin_refusal_by go (inl (refl, refl)) is (leads refl)
 
   pub forget_step : (go : AdmitGo) → Leads handed by goes.Answered (admit_refusal forget_refusal_by uuid old (service old.history)) (admitted_done handed by uuid old) (admitted_go by old) old new go → AdmitStep Forget (behind_admission go)
   forget_step go leads = by_refusal (admit_refusal forget_refusal_by uuid old (service old.history)) refl leads
     where
       by_refusal : (why : Option Reply) → admit_refusal forget_refusal_by uuid old (service old.history) ≡ why → Leads handed by goes.Answered why (admitted_done handed by uuid old) (admitted_go by old) old new go → AdmitStep Forget (behind_admission go)
-      by_refusal (Some reply) is (made, went) = subst (AdmitStep Forget) (sym (ap behind_admission went)) (answered_step Forget reply None made (inr is, refl))
+      by_refusal (Some reply) is (made, went) = subst (AdmitStep Forget) (sym (ap behind_admission went)) (answered_step Forget reply None made (inr is, refl) (gives_none old.number))
       by_refusal None is leads = free_step Forget forget_refusal_by go (inl refl, refl) is leads
 
 -- ---- the last turn

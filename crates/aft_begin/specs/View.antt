@@ -1,5 +1,6 @@
 -- What a line that claims a UUID shows: its line, its node, its UUID, what it claims that for, and how far it has come.
 use Rattle.std.specs.Prelude.{Bool, IsTrue, false, true, List, None, Option, Some, ℕ, ◌+◌, ◌≡◌}
+use Rattle.std.specs.Option.{ForSome}
 use Rattle.aft_id.specs.declared.txn_id.TxnId.{TxnId}
 use Rattle.aft_model.specs.declared.caller.Attempt.{Attempt}
 use Rattle.aft_model.specs.declared.caller.By.{By}
@@ -77,7 +78,7 @@ given_at stage = None
 abbrev pub hold_of : ClaimView → Hold
 hold_of line = record { node = line.node; attempt = given_at line.stage }
 
--- the attempt is of its node; what it is to answer is what a line that takes its attempt away may; and only a forget deletes, the marker of its UUID
+-- the attempt is of its node, and so is one that it gives; what it is to answer is what a line that takes its attempt away may; and only a forget deletes, the marker of its UUID
 abbrev pub FitsAt : Aim → ℕ → List ℕ → Stage → Type 0
 FitsAt aim node uuid (Claims a) = a.node ≡ node
 FitsAt aim node uuid (Seeks a sought) = a.node ≡ node
@@ -85,7 +86,8 @@ FitsAt aim node uuid (Runs a) = a.node ≡ node
 FitsAt aim node uuid (Forgets a id) = (a.node ≡ node) × (id.uuid ≡ uuid) × (aim ≡ Forget)
 FitsAt aim node uuid (LetsGo a reply) = (a.node ≡ node) × IsTrue (is_begin_refusal (Some reply))
 FitsAt aim node uuid (GivesUp a reply) = (a.node ≡ node) × IsTrue (is_begin_refusal (Some reply))
-FitsAt aim node uuid stage = Unit {0}
+FitsAt aim node uuid (Ended given) = ForSome given (λ a. a.node ≡ node)
+FitsAt aim node uuid Begins = Unit {0}
 
 -- how far its first turn leads
 abbrev pub behind_admission : AdmitGo → Stage

@@ -1,5 +1,6 @@
 //! A begin.
 
+ghost use Rattle.std.specs.Option.{ForSome};
 ghost use Rattle.std.specs.Prelude.{◌≡◌, ◌≢◌, ◌≤◌, ◌<◌, ℕ, IsTrue, List};
 ghost use Rattle.aft_begin.specs.Made.{Made, MayCall, MayEnd, may_close, told_fault};
 ghost use Rattle.aft_begin.specs.View.{hold_of, left_of, next_of};
@@ -75,9 +76,10 @@ impl Begin {
         self.line.left()
     }
 
-    /// What its client holds once it is over: its node, and the attempt that runs or was joined, if one was.
+    /// What its client holds once it is over: its node, and the attempt that runs or was joined, if one was, which is of the node.
     pub fn hold(&self) -> Hold
-        ensures { result ≡ hold_of self.now }
+        ensures hold { result ≡ hold_of self.now }
+        ensures own { ForSome result.attempt (λ a. a.node ≡ result.node) }
     {
         Hold {
             node: self.line.node(),

@@ -1,5 +1,6 @@
 //! A line that claims a UUID: what a begin and a forget share.
 
+ghost use Rattle.std.specs.Option.{ForSome};
 ghost use Rattle.std.specs.Prelude.{◌≡◌, ◌≢◌, ◌≤◌, ◌<◌, ℕ, IsTrue, List};
 ghost use Rattle.aft_begin.specs.Made.{Knows, Made, MayCall, MayEnd, may_close, told_fault};
 ghost use Rattle.aft_begin.specs.View.{asks, given_at, hold_of, left_of, next_of};
@@ -120,7 +121,8 @@ impl Claiming {
 
     /// The attempt that it gives its client, once it is over.
     pub(crate) fn given(&self) -> Option<Attempt>
-        ensures { result ≡ given_at self.now.stage }
+        ensures given { result ≡ given_at self.now.stage }
+        ensures own { ForSome result (λ a. a.node ≡ self.now.node) }
     {
         match &self.stage {
             Stage::Ended { attempt } => *attempt,

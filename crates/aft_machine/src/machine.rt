@@ -127,9 +127,10 @@ impl Machine {
     }
 
     /// What its client holds behind the line: of a begin that is over its node and the attempt that it gives, and of any other
-    /// line what it held before.
+    /// line what it held before. Its attempt is of its node, if that was so before.
     pub fn hold(&self) -> Hold
-        ensures { result ≡ hold_behind self.now }
+        ensures hold { result ≡ hold_behind self.now }
+        ensures own { (before : Hold) → Holds self.now before → ForSome before.attempt (λ a. a.node ≡ before.node) → ForSome result.attempt (λ a. a.node ≡ result.node) }
     {
         match self {
             Machine::Begin(line) => line.hold(),

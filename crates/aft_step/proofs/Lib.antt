@@ -1,0 +1,6 @@
+mod Lists
+mod Homes
+mod MayGo
+mod NodeTurn
+mod NodeAfter
+mod DoorTurn
