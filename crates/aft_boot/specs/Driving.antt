@@ -51,16 +51,18 @@ pub record Drives (start : List DoorEntry) (capacity lines : ℕ) (boot : BootVi
   pub placed : Placed node.number (length start) [] trail.turns
   pub looked : BeginsWith trail.look door
 
--- what the last entry of a first boot is to the opening: that the node serves, or why there is no world
+-- what a boot's reply is to the opening: that the node serves, or why there is no world
 abbrev pub ReplyTells : Reply → Result Unit AuditFault → Type 0
 ReplyTells (replies.Started node inc) told = told ≡ Ok tt
 ReplyTells reply (Err fault) = TellsFault reply fault
 ReplyTells reply (Ok done) = ⊥
 
+-- the same of an answer; what was not answered is want of memory
 abbrev pub AnswerTells : Option Reply → Result Unit AuditFault → Type 0
 AnswerTells (Some reply) told = ReplyTells reply told
 AnswerTells None told = told ≡ Err faults.Memory
 
+-- the same of a node's last entry, if there is one
 abbrev pub LastTells : Option NodeEntry → Result Unit AuditFault → Type 0
 LastTells (Some entry) told = AnswerTells entry.answer told
 LastTells None told = told ≡ Err faults.Memory

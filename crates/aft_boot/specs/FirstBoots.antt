@@ -35,10 +35,11 @@ pub record FirstBoot : Type 0 where
 abbrev pub shown_by : FirstBoot → List Commit
 shown_by boot = recorded (listed_on boot.pages)
 
--- its entries at its node
+-- its first entry at its node
 abbrev pub first_entry : FirstBoot → NodeEntry
 first_entry boot = record { front = boot.front; by = opening; act = acts.Booting 1; answer = None }
 
+-- its last entry there, which has seen all that it did at the door
 abbrev pub last_entry : FirstBoot → NodeEntry
 last_entry boot = record { front = suc (boot.front + length boot.pages); by = opening; act = acts.Boot 1 (shown_by boot); answer = Some (replies.Started boot.node 1) }
 

@@ -33,10 +33,11 @@ settings_of conf = record { nodes = conf.nodes; cache = conf.cache; mailbox = co
 
 -- ---- a world
 
--- the histories of nodes, and of boxes
+-- the histories of nodes
 abbrev pub histories : List NodeView → List (List NodeEntry)
 histories nodes = map (λ node. node.history) nodes
 
+-- the histories of boxes
 abbrev pub posts : List BoxState → List (List MailEntry)
 posts boxes = map (λ box. box.history) boxes
 
@@ -48,10 +49,11 @@ ran_over door nodes boxes office = record { trace = record { door = door; nodes 
 abbrev pub is_ready : Settings → ℕ → ℕ → NodeView → Bool
 is_ready settings lines reach node = node.capacity == settings.cache && node.room == lines && nat_le node.front reach && serves 1 (node_state node.history)
 
--- empty boxes: the office's, and one of each node
+-- a box as it is made
 abbrev pub empty_box : Settings → BoxState
 empty_box settings = record { capacity = settings.mailbox; messages = []; front = 0; history = [] }
 
+-- empty boxes: the office's, and one of each node
 abbrev pub empty_boxes : Settings → List BoxState
 empty_boxes settings = replicate (settings.nodes + 1) (empty_box settings)
 
@@ -110,12 +112,13 @@ pub record IsMade (settings : Settings) (lines : ℕ) (door : List DoorEntry) (n
   pub boxes_are : boxes ≡ empty_boxes settings
   pub office_is : office ≡ record { heard = ids_of commits; history = []; front = 0; room = lines }
 
--- the audit refused the store, or a boot behind it was stopped
+-- a boot behind the audit was stopped
 pub record StopsBehind (settings : Settings) (fault : AuditFault) (door : List DoorEntry) : Type 0 where
   pub audited : List DoorEntry
   pub commits : List Commit
   pub opened : HasOpened commits audited
   pub stopped : HaveStopped settings.nodes fault audited door
 
+-- the audit refused the store, or a boot behind it was stopped
 abbrev pub IsStopped : Settings → AuditFault → List DoorEntry → Type 0
 IsStopped settings fault door = IsRefusedFor fault door ⊎ StopsBehind settings fault door
