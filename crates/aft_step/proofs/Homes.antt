@@ -15,7 +15,7 @@ use Rattle.aft_commit.specs.declared.stage.Stage.{Stage as FinishStage}
 use Rattle.aft_commit.specs.declared.stage.Stage.TheVariants as finishing
 use Rattle.aft_lines.specs.Asked.{Asked}
 use Rattle.aft_lines.specs.Lines.{background_lines, lines}
-use Rattle.aft_machine.specs.OneNode.{next_of}
+use Rattle.aft_machine.specs.OneNode.{Holds, command_of, hold_behind, next_of}
 use Rattle.aft_machine.specs.PutView as puts
 use Rattle.aft_machine.specs.Starved as starved
 use Rattle.aft_machine.specs.declared.buffering.Stage.{Stage as PutStage}
@@ -30,7 +30,7 @@ use Rattle.aft_model.specs.declared.script.Order.{Order}
 use Rattle.aft_read.specs.View as reads
 use Rattle.aft_read.specs.declared.stage.Stage.{Stage as ReadStage}
 use Rattle.aft_read.specs.declared.stage.Stage.TheVariants as reading
-use Rattle.aft_step.specs.Going.{Goes, IsAsked, names_node}
+use Rattle.aft_step.specs.Going.{Goes, IsAsked, is_placed, names_node}
 use Rattle.aft_turns.specs.Trail.{Trail}
 use Rattle.aft_turns.specs.declared.turn.Where.TheVariants as places
 
@@ -89,7 +89,7 @@ in_script asked asks line among = elim (in_append line (asked.script.lines ++ as
   | inr behind ↦ absurd (subst (λ (o : Option Order). In line (background_lines o asked.settings)) asks.ordered behind)
 ]
 
-module _ (asked : Asked) (line : Line) (hold : Hold) (now : ℕ) (trail : Trail) (named : IsTrue (names_node asked.settings line.order)) (placed : IsTrue (nat_le 1 hold.node && nat_le hold.node asked.settings.nodes)) where
+module _ (asked : Asked) (line : Line) (hold : Hold) (now : ℕ) (trail : Trail) (named : IsTrue (names_node asked.settings line.order)) (placed : IsTrue (is_placed asked.settings hold)) where
   abbrev there : ℕ → Type 0
   there n = IsTrue (nat_le 1 n && nat_le n asked.settings.nodes)
 
@@ -103,3 +103,14 @@ module _ (asked : Asked) (line : Line) (hold : Hold) (now : ℕ) (trail : Trail)
   home (Starve m) n goes is = subst there (ap (λ (h : Hold). h.node) (sym goes.held) ∙ starved_home m.hold.node n m.over is) placed
   home (Crash m held) n goes is = subst there (crash_home m.node n m.stage is) (subst (λ (c : Command). IsTrue (names_node asked.settings c)) (sym goes.command) named)
   home (Start m held) n goes is = subst there (boot_home m.node n m.stage is) (subst (λ (c : Command). IsTrue (names_node asked.settings c)) (sym goes.command) named)
+
+-- what a line's client holds behind it is of a node that is there
+pub placed_behind : (asked : Asked) (order : Command) (hold : Hold) → IsTrue (names_node asked.settings order) → IsTrue (is_placed asked.settings hold) → (machine : Machine) → command_of machine ≡ order → Holds machine hold → IsTrue (is_placed asked.settings (hold_behind machine))
+placed_behind asked order hold named placed (Begin m) command held = subst (λ (c : Command). IsTrue (names_node asked.settings c)) (sym command) named
+placed_behind asked order hold named placed (Forget m it) command held = subst (λ (h : Hold). IsTrue (is_placed asked.settings h)) (sym held) placed
+placed_behind asked order hold named placed (Read m) command held = subst (λ (h : Hold). IsTrue (is_placed asked.settings h)) (sym held) placed
+placed_behind asked order hold named placed (Finish m) command held = subst (λ (h : Hold). IsTrue (is_placed asked.settings h)) (sym held) placed
+placed_behind asked order hold named placed (Put m) command held = subst (λ (h : Hold). IsTrue (is_placed asked.settings h)) (sym held) placed
+placed_behind asked order hold named placed (Starve m) command held = subst (λ (h : Hold). IsTrue (is_placed asked.settings h)) (sym held) placed
+placed_behind asked order hold named placed (Crash m it) command held = subst (λ (h : Hold). IsTrue (is_placed asked.settings h)) (sym held) placed
+placed_behind asked order hold named placed (Start m it) command held = subst (λ (h : Hold). IsTrue (is_placed asked.settings h)) (sym held) placed

@@ -1,6 +1,15 @@
 mod Lists
+mod Lines
 mod Homes
 mod MayGo
 mod NodeTurn
 mod NodeAfter
 mod DoorTurn
+mod Starts
+mod Ends
+mod Courses
+mod Crowding
+mod Following
+mod Finishing
+mod Words
+mod Opening

@@ -239,6 +239,6 @@ module _ (asked : Asked) (stand : Line → Stand) (seats : ℕ → Seat) (world 
     pub turned : ((time : ℕ) (next : Trail) (view : LineView) → made_of asked.settings.cache time later next → RanSo (command_of later) hold asked.settings.cache next view → 1 ≤ left_of later → IsUnanswered view) → (next_of later ≢ places.Done → 1 ≤ left_of later) → AimsSo later
         → ((time : ℕ) (next : Trail) → made_of asked.settings.cache time later next → next_of later ≡ places.Done → GivesSo later next.turns) → Turned asked stand seats changed line hold later now
     turned unanswered going aims_now gives = elim (cases_Bool (is_over later)) [
-      | inl over ↦ inr (over, crowd_now over aims_now gives, fit_now over aims_now gives)
+      | inl over ↦ inr (record { over = over; command = command ∙ r.goes.command; held = held_now; crowd = crowd_now over aims_now gives; fit = fit_now over aims_now gives })
       | inr on ↦ inl (next_trail, runs_on on unanswered going)
     ]

@@ -33,7 +33,7 @@ module _ (asked : Asked) (stand : Line → Stand) (seats : ℕ → Seat) (world 
   pub among : In line asked.script.lines
   among = in_script asked r.asks line driven.may.among
 
-  named : IsTrue (names_node asked.settings line.order)
+  pub named : IsTrue (names_node asked.settings line.order)
   named = all_at (λ (l : Line). names_node asked.settings l.order) line asked.script.lines among r.asks.named
 
   -- at least this line is left

@@ -43,6 +43,10 @@ pub record IsAsked (asked : Asked) : Type 0 where
 
 -- ---- a line
 
+-- whether what a client holds is of a node that is there
+abbrev pub is_placed : Settings → Hold → Bool
+is_placed settings hold = nat_le 1 hold.node && nat_le hold.node settings.nodes
+
 -- a commit or an abort reads the clock before its first turn
 abbrev pub HasRead : Command → ℕ → ℕ → Type 0
 HasRead commands.Commit now time = now ≡ time
@@ -67,10 +71,17 @@ pub record Running (asked : Asked) (stand : Line → Stand) (seats : ℕ → Sea
   pub busy : seats line.client ≡ Busy hold line trail
   pub goes : Goes asked line hold machine now trail
   pub on : is_over machine ≡ false
-  pub placed : IsTrue (nat_le 1 hold.node && nat_le hold.node asked.settings.nodes)
+  pub placed : IsTrue (is_placed asked.settings hold)
 
--- what a turn leaves: the line runs on, or it is over and its client holds what it gives
+-- a line that has just ended beside the others, and whose client holds what it gives
+pub record Over (asked : Asked) (stand : Line → Stand) (seats : ℕ → Seat) (world : WorldView) (line : Line) (hold : Hold) (machine : Machine) : Type 0 where
+  pub over : is_over machine ≡ true
+  pub command : command_of machine ≡ line.order
+  pub held : Holds machine hold
+  pub crowd : Crowd asked (ran_of world) (with_stand line IsDone stand) (with_seat line.client (Idle (hold_behind machine)) seats)
+  pub fit : NodesFit asked (with_stand line IsDone stand) world
+
+-- what a turn leaves: the line runs on, or it is over
 abbrev pub Turned : Asked → (Line → Stand) → (ℕ → Seat) → WorldView → Line → Hold → Machine → ℕ → Type 0
 Turned asked stand seats world line hold machine now =
-    ((trail : Trail) × Running asked stand (with_seat line.client (Busy hold line trail) seats) world line hold machine now trail)
-    ⊎ ((is_over machine ≡ true) × Crowd asked (ran_of world) (with_stand line IsDone stand) (with_seat line.client (Idle (hold_behind machine)) seats) × NodesFit asked (with_stand line IsDone stand) world)
+    ((trail : Trail) × Running asked stand (with_seat line.client (Busy hold line trail) seats) world line hold machine now trail) ⊎ Over asked stand seats world line hold machine

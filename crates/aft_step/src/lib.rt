@@ -1,8 +1,10 @@
-//! One thread: the turns of a script's lines over a world. So far it makes one turn of one line, beside those of other clients, which
-//! keeps what a driver needs of all of them (`law_clients`); in which order lines take turns is the driver's. It knows nothing of what a
-//! line's turns do, which its machine knows.
+//! One thread: the lines of a script, run over a world in the order of its words, a turn of one line and then of another. It knows how
+//! lines take turns, and nothing of what a line's turns do, which its machine knows.
 #![tactic(auto)]
 
+mod client;
+mod searching;
+mod stepping;
 mod turns;
 
-pub use turns::turn;
+pub use stepping::step;

@@ -29,7 +29,7 @@ use std::mem::replace;
 /// Makes the next turn of a line's machine, at its node or at the door, where that isn't over. The turn has seen all that is at the door,
 /// and is handed this time of the clock (milliseconds since 1970), which a commit's and an abort's first turn reads. The line runs on
 /// behind it, or is over, and its client then holds what its machine gives; the lines of other clients stand as they did.
-pub fn turn<K: Keeper>(alloc: Global, world: &mut World<K>, machine: &mut Machine, now: u64)
+pub(crate) fn turn<K: Keeper>(alloc: Global, world: &mut World<K>, machine: &mut Machine, now: u64)
     requires runs { (asked : Asked) × (stand : Line → Stand) × (seats : ℕ → Seat) × (line : Line) × (hold : Hold) × (trail : Trail) × Running asked stand seats (shown world.old.door world.old.nodes world.old.boxes world.old.office) line hold machine.old now trail }
     ensures left { left_of machine.new < left_of machine.old }
     ensures turned { (asked : Asked) (stand : Line → Stand) (seats : ℕ → Seat) (line : Line) (hold : Hold) (trail : Trail) → Running asked stand seats (shown world.old.door world.old.nodes world.old.boxes world.old.office) line hold machine.old now trail → Turned asked stand seats (shown world.new.door world.new.nodes world.new.boxes world.new.office) line hold machine.new now }
