@@ -1,5 +1,5 @@
 -- What several turns of one client leave.
-use Rattle.std.proofs.Common.{arith, ◌≡◌, ℕ, ◌+◌, ◌<◌, ◌≤◌, Bool, true, List, length, ltb, refl, sym, subst, ◌∙◌, inl, inr, slice_get}
+use Rattle.std.proofs.Common.{arith, ◌≡◌, ℕ, ◌+◌, ◌≤◌, Bool, true, List, length, ltb, refl, sym, subst, ◌∙◌, inl, inr, slice_get}
 use Rattle.std.specs.Prelude.{IsTrue, None, Option, Some, is_some}
 use Rattle.std.proofs.lemmas.Bool.{cases_Bool, ltb-true}
 use Rattle.std.proofs.lemmas.Option.{slice_get_within}
@@ -30,7 +30,7 @@ reaches_first lines number from at line there its low i one is own up none = eli
 pub reaches_end : (lines : List Line) (number from at : ℕ) → length lines ≤ at → ReachesFirst lines number from at
 reaches_end lines number from at all i one is own up none = let low = slice_get_within lines i one is in omega arith
 
--- of a client whose line runs
+-- of a client whose line runs, that one is the first
 module _ (asked : Asked) (stand : Line → Stand) (seats : ℕ → Seat) (world : WorldView) (client : Client) (driven : Driven asked stand seats world client) (course : Course) (runs : client.running ≡ Some course) (lines : List Line) (same : asked.script.lines ≡ lines) where
   its : RunsAt asked stand seats client.number client.at client.hold course
   its = subst (StandsAt asked stand seats client.number client.at client.hold) runs driven.sits.stands
@@ -39,21 +39,6 @@ module _ (asked : Asked) (stand : Line → Stand) (seats : ℕ → Seat) (world 
   reaches_own =
       subst (λ (running : Option Course). ReachesFirst lines client.number client.at (reach running client.at)) (sym runs)
       (reaches_first lines client.number client.at client.at its.line (subst (λ (l : List Line). slice_get l client.at ≡ Some its.line) same its.there) its.its (omega arith))
-
-  pub reaches_within : reach client.running client.at ≤ length lines
-  reaches_within =
-      subst (λ (running : Option Course). reach running client.at ≤ length lines) (sym runs)
-      (let low = slice_get_within lines client.at its.line (subst (λ (l : List Line). slice_get l client.at ≡ Some its.line) same its.there) in omega arith)
-
-  -- whose next line needn't begin
-  pub begun_already : Begun asked stand seats client world client
-  begun_already = record {
-    later = stand;
-    now = seats;
-    driven = driven;
-    leaves = record { lines = λ line among apart. refl; seats = λ other apart. refl };
-    came = λ none. absurd (let never : None ≡ Some course = sym none ∙ runs in cc);
-  }
 
 -- the line that runs
 pub that_runs : (running : Option Course) → is_some running ≡ true → (course : Course) × (running ≡ Some course)
@@ -66,16 +51,6 @@ leaves_on : (asked : Asked) (number : ℕ) (stand middle later : Line → Stand)
 leaves_on asked number stand middle later seats between now one other = record {
   lines = λ line among apart. other.lines line among apart ∙ one.lines line among apart;
   seats = λ client apart. other.seats client apart ∙ one.seats client apart;
-}
-
--- what a client leaves that hasn't moved
-pub moves_not : (asked : Asked) (stand : Line → Stand) (seats : ℕ → Seat) (world : WorldView) (client : Client) → Driven asked stand seats world client → Moves asked stand seats client world client
-moves_not asked stand seats world client driven = record {
-  later = stand;
-  now = seats;
-  driven = driven;
-  leaves = record { lines = λ line among apart. refl; seats = λ other apart. refl };
-  came = λ first so. so;
 }
 
 module _ (asked : Asked) (stand : Line → Stand) (seats : ℕ → Seat) (before : Client) (world : WorldView) (between : Client) where

@@ -1,9 +1,9 @@
 -- What a turn of a client's line leaves.
-use Rattle.std.proofs.Common.{arith, ◌≡◌, ◌≢◌, ℕ, ◌+◌, ◌<◌, ◌≤◌, Bool, true, false, not, List, [], eqb, ltb, refl, sym, ap, subst, ◌∙◌, ◌⊎◌, inl, inr, slice_get}
-use Rattle.std.specs.Prelude.{IsFalse, IsTrue, None, Option, Some, if◌then◌else◌}
+use Rattle.std.proofs.Common.{arith, ◌≡◌, ◌≢◌, ℕ, ◌+◌, ◌<◌, ◌≤◌, Bool, true, false, not, [], eqb, refl, sym, ap, subst, ◌∙◌, inl, inr, slice_get}
+use Rattle.std.specs.Prelude.{IsFalse, IsTrue, None, Some, if◌then◌else◌}
 use Rattle.std.specs.List.{list_all}
 use Rattle.std.specs.Option.{ForSome}
-use Rattle.std.proofs.lemmas.Bool.{and_parts, cases_Bool, eq-eqb, eqb-true, false_from_ne_true, ltb-true, true≢false}
+use Rattle.std.proofs.lemmas.Bool.{and_parts, cases_Bool, eq-eqb, eqb-true, false_from_ne_true, true≢false}
 use Rattle.aft_lines.specs.Asked.{Asked}
 use Rattle.aft_lines.specs.FinishedText.{line_of}
 use Rattle.aft_lines.specs.LegalTrace.{is_numbered_behind}
@@ -21,13 +21,13 @@ use Rattle.aft_step.specs.declared.client.Course.{Course}
 use Rattle.aft_step.specs.Going.{Running, Turned}
 use Rattle.aft_step.specs.Moving.{Came, Moves}
 use Rattle.aft_step.specs.Sitting.{Driven, LeavesOthers, RanWhole, RunsAt, StandsAt}
-use Rattle.aft_step.specs.Worlds.{NodesFit, WorldView, ran_of}
+use Rattle.aft_step.specs.Worlds.{WorldView}
 use Rattle.aft_turns.specs.declared.turn.Where.{Where}
 use Rattle.aft_turns.specs.declared.turn.Where.TheVariants as places
 use Rattle.law_accounts.specs.Account.{IsDone, Runs, Stand}
 use Rattle.law_claims.proofs.Scenes.{by_itself}
 use Rattle.law_clients.proofs.Seats.{client_differs}
-use Rattle.law_clients.specs.Clients.{Busy, Crowd, Idle, Seat, with_seat}
+use Rattle.law_clients.specs.Clients.{Busy, Idle, Seat, with_seat}
 use Rattle.law_driver.specs.Kept.{with_stand}
 
 less : (i j : ℕ) → i < j → i ≡ j → ⊥
@@ -68,30 +68,29 @@ module _ (asked : Asked) (stand : Line → Stand) (seats : ℕ → Seat) (world 
         → (now : ℕ → Seat) × Driven asked stand now after (record { number = client.number; hold = client.hold; at = client.at; running = Some (record { machine = machine; now = course.now }) }) × LeavesOthers asked client.number stand stand seats now
     runs_on not_over = elim turned [
       | inl on ↦
-          let more = on.1 in
-          (
-          with_seat its.line.client (Busy client.hold its.line on.0) seats,
-          record {
-            asks = more.asks;
-            crowd = more.crowd;
-            fit = more.fit;
-            sits = record {
-              placed = driven.sits.placed;
-              own = driven.sits.own;
-              behind = driven.sits.behind;
-              stands = record {
-                line = its.line;
-                trail = on.0;
-                there = its.there;
-                its = its.its;
-                busy = own_seat (Busy client.hold its.line on.0);
-                goes = more.goes;
-                on = more.on;
-                later = its.later;
+          let more = on.1 in (
+            with_seat its.line.client (Busy client.hold its.line on.0) seats,
+            record {
+              asks = more.asks;
+              crowd = more.crowd;
+              fit = more.fit;
+              sits = record {
+                placed = driven.sits.placed;
+                own = driven.sits.own;
+                behind = driven.sits.behind;
+                stands = record {
+                  line = its.line;
+                  trail = on.0;
+                  there = its.there;
+                  its = its.its;
+                  busy = own_seat (Busy client.hold its.line on.0);
+                  goes = more.goes;
+                  on = more.on;
+                  later = its.later;
+                };
               };
-            };
-          },
-          record { lines = λ line among apart. refl; seats = seat_leaves (Busy client.hold its.line on.0) },
+            },
+            record { lines = λ line among apart. refl; seats = seat_leaves (Busy client.hold its.line on.0) },
           )
       | inr done ↦ absurd (true≢false (sym done.over ∙ not_over))
     ]
@@ -117,21 +116,21 @@ module _ (asked : Asked) (stand : Line → Stand) (seats : ℕ → Seat) (world 
     is_done ended own = elim turned [
       | inl on ↦ absurd (true≢false (sym ended ∙ on.1.on))
       | inr done ↦ record {
-          asks = driven.asks;
-          crowd = done.crowd;
-          fit = done.fit;
-          sits = record {
-            placed = placed_behind asked its.line.order client.hold (named asked stand seats world its.line client.hold course.machine course.now its.trail runs) driven.sits.placed machine done.command done.held;
-            own = own client.hold done.held driven.sits.own;
-            behind = λ i one is own lt. elim (cases_Bool (eqb i client.at)) [
-              | inl same ↦ done_at one (subst (λ (n : ℕ). slice_get asked.script.lines n ≡ Some one) (eqb-true i client.at same) is)
-              | inr differs ↦
-                  let apart : i ≢ client.at = λ e. true≢false (sym (eq-eqb i client.at e) ∙ differs) in
-                  stays i one is apart ∙ driven.sits.behind i one is own (omega arith)
-            ];
-            stands = (own_seat (Idle (hold_behind machine)), λ i one is own up. stays i one is (λ e. past i client.at up e) ∙ its.later i one is own up);
-          };
-        }
+        asks = driven.asks;
+        crowd = done.crowd;
+        fit = done.fit;
+        sits = record {
+          placed = placed_behind asked its.line.order client.hold (named asked stand seats world its.line client.hold course.machine course.now its.trail runs) driven.sits.placed machine done.command done.held;
+          own = own client.hold done.held driven.sits.own;
+          behind = λ i one is own lt. elim (cases_Bool (eqb i client.at)) [
+            | inl same ↦ done_at one (subst (λ (n : ℕ). slice_get asked.script.lines n ≡ Some one) (eqb-true i client.at same) is)
+            | inr differs ↦
+                let apart : i ≢ client.at = λ e. true≢false (sym (eq-eqb i client.at e) ∙ differs) in
+                stays i one is apart ∙ driven.sits.behind i one is own (omega arith)
+          ];
+          stands = (own_seat (Idle (hold_behind machine)), λ i one is own up. stays i one is (λ e. past i client.at up e) ∙ its.later i one is own up);
+        };
+      }
     ]
 
     leaves : LeavesOthers asked client.number stand later seats (with_seat its.line.client (Idle (hold_behind machine)) seats)
@@ -141,14 +140,18 @@ module _ (asked : Asked) (stand : Line → Stand) (seats : ℕ → Seat) (world 
     came : (first : Line → Stand) → Came asked client.number first stand client.at (Some course) → RanWhole asked client.number first later
     came first (line, there, is_first, so) =
         let same : its.line ≡ line = one_there asked.script.lines client.at its.line line its.there there in
-        inr (line, is_first, λ other.
-        subst (λ (l : Line). with_stand l IsDone stand other ≡ with_stand line IsDone first other) (sym same)
-        (elim (cases_Bool (same_line (line_of other) (line_of line))) [
-          | inl own ↦ ap (λ (b : Bool). if b then IsDone else stand other) own ∙ sym (ap (λ (b : Bool). if b then IsDone else first other) own)
-          | inr differs ↦
-              ap (λ (b : Bool). if b then IsDone else stand other) differs ∙ so other ∙ ap (λ (b : Bool). if b then Runs else first other) differs
-              ∙ sym (ap (λ (b : Bool). if b then IsDone else first other) differs)
-        ]))
+        inr (
+          line,
+          is_first,
+          λ other.
+              subst (λ (l : Line). with_stand l IsDone stand other ≡ with_stand line IsDone first other) (sym same)
+              (elim (cases_Bool (same_line (line_of other) (line_of line))) [
+                | inl own ↦ ap (λ (b : Bool). if b then IsDone else stand other) own ∙ sym (ap (λ (b : Bool). if b then IsDone else first other) own)
+                | inr differs ↦
+                    ap (λ (b : Bool). if b then IsDone else stand other) differs ∙ so other ∙ ap (λ (b : Bool). if b then Runs else first other) differs
+                    ∙ sym (ap (λ (b : Bool). if b then IsDone else first other) differs)
+              ]),
+        )
 
     -- all that a turn leaves behind which the line is over,
     pub after_end : (hold : Hold) → hold ≡ hold_behind machine → ((before : Hold) → Holds machine before → ForSome before.attempt (λ a. a.node ≡ before.node) → ForSome hold.attempt (λ a. a.node ≡ hold.node)) → is_over machine ≡ true
@@ -166,6 +169,6 @@ module _ (asked : Asked) (stand : Line → Stand) (seats : ℕ → Seat) (world 
     -- and behind which it runs on
     pub after_turn : is_over machine ≡ false → Moves asked stand seats client after (record { number = client.number; hold = client.hold; at = client.at; running = Some (record { machine = machine; now = course.now }) })
     after_turn not_over = (
-      let on = runs_on not_over in
-      record { later = stand; now = on.0; driven = on.1; leaves = on.2; came = λ first so. subst (Came asked client.number first stand client.at) running so }
-    )
+        let on = runs_on not_over in
+        record { later = stand; now = on.0; driven = on.1; leaves = on.2; came = λ first so. subst (Came asked client.number first stand client.at) running so }
+        )

@@ -6,7 +6,7 @@ use Rattle.aft_model.specs.declared.script.Line.{Line}
 use Rattle.aft_model.specs.declared.script.Step.{Step}
 use Rattle.aft_model.specs.History.{first_of}
 use Rattle.aft_lines.specs.Asked.{Asked}
-use Rattle.aft_lines.specs.Lines.{by_words, lines, others, whole_order}
+use Rattle.aft_lines.specs.Lines.{by_words, others, whole_order}
 use Rattle.aft_step.proofs.Crowding.{all_sit, listed, none_runs_still}
 use Rattle.aft_step.specs.Crowding.{ComesTo, OverBelow}
 use Rattle.aft_step.specs.declared.client.Client.{Client}

@@ -1,6 +1,6 @@
 -- Lines of a script, by where they stand in it.
 use Rattle.std.proofs.Common.{arith, ◌≡◌, ◌≢◌, ℕ, zero, suc, ◌<◌, Bool, true, false, List, [], ◌∷◌, ◌++◌, eqb, ltb, refl, sym, ap, subst, ◌∙◌, ◌⊎◌, inl, inr, slice_get}
-use Rattle.std.specs.Prelude.{IsFalse, IsTrue, None, Option, Some, filter, if◌then◌else◌, ◌==◌}
+use Rattle.std.specs.Prelude.{IsFalse, IsTrue, None, Some, filter, if◌then◌else◌, ◌==◌}
 use Rattle.std.proofs.lemmas.Bool.{and_parts, cases_Bool, eq-eqb, eqb-true, false_from_ne_true, ltb-true, true≢false}
 use Rattle.aft_model.proofs.Histories.{In, all_at, in_back, in_front}
 use Rattle.aft_model.specs.declared.script.Line.{Line}
@@ -57,9 +57,9 @@ tri : (i j : ℕ) → (i < j) ⊎ (i ≡ j) ⊎ (j < i)
 tri i j = elim (cases_Bool (ltb i j)) [
   | inl below ↦ inl (ltb-true i j below)
   | inr not_below ↦ elim (cases_Bool (ltb j i)) [
-      | inl past ↦ inr (inr (ltb-true j i past))
-      | inr not_past ↦ inr (inl (grind (arith, not_below, not_past)))
-    ]
+    | inl past ↦ inr (inr (ltb-true j i past))
+    | inr not_past ↦ inr (inl (grind (arith, not_below, not_past)))
+  ]
 ]
 
 less : (a b : ℕ) → a < b → a ≡ b → ⊥
@@ -80,12 +80,12 @@ module _ (xs : List Line) (ascend : IsTrue (each_after is_numbered_behind [] xs)
   -- lines at two indices are two
   pub apart_at : i ≢ j → IsFalse (same_line (line_of one) (line_of other))
   apart_at apart = false_from_ne_true _ (λ same.
-    let number : one.number ≡ other.number = eqb-true one.number other.number (and_parts (eqb one.client other.client) (eqb one.number other.number) same).1 in
-    elim (tri i j) [
-      | inl below ↦ less one.number other.number (numbers_ascend [] xs ascend i j one other is there below) number
-      | inr (inl at) ↦ apart at
-      | inr (inr past) ↦ less other.number one.number (numbers_ascend [] xs ascend j i other one there is past) (sym number)
-    ])
+      let number : one.number ≡ other.number = eqb-true one.number other.number (and_parts (eqb one.client other.client) (eqb one.number other.number) same).1 in
+      elim (tri i j) [
+        | inl below ↦ less one.number other.number (numbers_ascend [] xs ascend i j one other is there below) number
+        | inr (inl at) ↦ apart at
+        | inr (inr past) ↦ less other.number one.number (numbers_ascend [] xs ascend j i other one there is past) (sym number)
+      ])
 
 -- ---- the first that waits
 

@@ -1,6 +1,6 @@
 -- A client's next line begins.
-use Rattle.std.proofs.Common.{arith, ◌≡◌, ◌≢◌, ℕ, ◌+◌, ◌<◌, ◌≤◌, Bool, true, false, not, List, [], ◌∷◌, ◌++◌, length, eqb, ltb, refl, sym, ap, subst, ◌∙◌, ◌⊎◌, inl, inr, slice_get}
-use Rattle.std.specs.Prelude.{IsFalse, IsTrue, None, Option, Some, filter, if◌then◌else◌, nat_le, ◌&&◌}
+use Rattle.std.proofs.Common.{arith, ◌≡◌, ◌≢◌, ℕ, ◌+◌, ◌<◌, ◌≤◌, Bool, false, not, List, [], ◌∷◌, ◌++◌, length, eqb, ltb, refl, sym, ap, subst, ◌∙◌, inl, inr, slice_get}
+use Rattle.std.specs.Prelude.{IsFalse, IsTrue, None, Some, filter, if◌then◌else◌, nat_le, ◌&&◌}
 use Rattle.std.specs.List.{list_all}
 use Rattle.std.proofs.lemmas.Bool.{and_parts, cases_Bool, eq-eqb, eqb-true, false_from_ne_true, false≢true, leb-true, ltb-true}
 use Rattle.aft_lines.specs.Asked.{Asked, Settings}
@@ -23,7 +23,7 @@ use Rattle.aft_step.specs.declared.client.Course.{Course}
 use Rattle.aft_step.specs.Going.{Goes, IsAsked, names_node}
 use Rattle.aft_step.specs.Moving.{Begun}
 use Rattle.aft_step.specs.Sitting.{Driven, LeavesOthers, NextInTurn, StandsAt}
-use Rattle.aft_step.specs.Worlds.{NodesFit, WorldView, is_fit, is_left, left_of, ran_of}
+use Rattle.aft_step.specs.Worlds.{NodesFit, WorldView, is_fit, is_left, ran_of}
 use Rattle.aft_turns.specs.Trail.{no_trail}
 use Rattle.aft_turns.specs.declared.turn.Where.{Where}
 use Rattle.aft_turns.specs.declared.turn.Where.TheVariants as places
@@ -137,8 +137,8 @@ module _ (asked : Asked) (stand : Line → Stand) (seats : ℕ → Seat) (world 
       among = listed;
       waits = waits;
       earlier = λ other among same below.
-      let found = in_get asked.script.lines other (in_script asked driven.asks other among) in
-      over found.0 other found.1 (same ∙ its) (index_below asked.script.lines ascend found.0 at other line found.1 there below);
+          let found = in_get asked.script.lines other (in_script asked driven.asks other among) in
+          over found.0 other found.1 (same ∙ its) (index_below asked.script.lines ascend found.0 at other line found.1 there below);
     }
 
     first : first_of (waiting_of client.number stand asked.script.lines) ≡ Some line

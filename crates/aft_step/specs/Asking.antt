@@ -1,5 +1,5 @@
 -- What `step` is asked, and over which world.
-use Rattle.std.specs.Prelude.{IsTrue, Option, Some, [], length, ℕ, ◌≡◌}
+use Rattle.std.specs.Prelude.{Option, Some, ℕ, ◌≡◌}
 use Rattle.aft_lines.specs.Asked.{Asked}
 use Rattle.aft_model.specs.declared.script.Order.{Order}
 use Rattle.aft_model.specs.declared.script.Script.{Script}

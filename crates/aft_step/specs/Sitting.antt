@@ -1,8 +1,8 @@
 -- How the clients of a script stand in the code: which line of each runs, and which comes next.
 use Rattle.std.specs.Option.{ForSome}
-use Rattle.std.specs.Prelude.{IsTrue, List, None, Option, Some, false, slice_get, ℕ, ◌+◌, ◌<◌, ◌≡◌, ◌≢◌, ◌≤◌, ◌⊎◌}
+use Rattle.std.specs.Prelude.{IsTrue, None, Option, Some, false, slice_get, ℕ, ◌+◌, ◌<◌, ◌≡◌, ◌≢◌, ◌≤◌, ◌⊎◌}
 use Rattle.aft_lines.specs.Asked.{Asked}
-use Rattle.aft_lines.specs.Lines.{lines, whole_order}
+use Rattle.aft_lines.specs.Lines.{lines}
 use Rattle.aft_machine.specs.OneNode.{is_over}
 use Rattle.aft_model.proofs.Histories.{In}
 use Rattle.aft_model.specs.declared.caller.Hold.{Hold}

@@ -1,4 +1,4 @@
-use Rattle.std.proofs.Common.{arith, ◌≡◌, ◌≤◌, ◌<◌, ℕ, Option, List, length, Some, slice_get, refl, sym, subst}
+use Rattle.std.proofs.Common.{arith, ◌≡◌, ◌≤◌, ℕ, Option, List, length, Some, slice_get, refl, sym, subst}
 use Rattle.std.proofs.lemmas.Option.{slice_get_read, slice_get_within}
 use Rattle.aft_model.specs.declared.script.Line.{Line}
 use Rattle.aft_step.proofs.Courses.{reaches_end, reaches_first}

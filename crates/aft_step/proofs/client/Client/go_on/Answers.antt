@@ -1,4 +1,4 @@
-use Rattle.std.proofs.Common.{◌≡◌, ◌<◌, ℕ, false, sym, subst, ◌∙◌}
+use Rattle.std.proofs.Common.{◌<◌, ℕ, sym, subst, ◌∙◌}
 use Rattle.std.proofs.lemmas.Bool.{true≢false}
 use Rattle.aft_step.proofs.Courses.{goes_on, moves_on}
 use Rattle.aft_step.proofs.client.Client.go_on.Goals as goal

@@ -1,4 +1,4 @@
-use Rattle.std.proofs.Common.{arith, ◌≡◌, ◌≤◌, ◌∙◌}
+use Rattle.std.proofs.Common.{arith, ◌∙◌}
 use Rattle.aft_step.proofs.Courses.{moves_on}
 use Rattle.aft_step.proofs.client.Client.run_out.Goals as goal
 use Rattle.aft_step.specs.Worlds.{shown}

@@ -1,9 +1,8 @@
-use Rattle.std.proofs.Common.{rules, ◌≡◌, true, false, ap, sym, ◌∙◌}
+use Rattle.std.proofs.Common.{◌≡◌, true, false, ap, sym, ◌∙◌}
 use Rattle.aft_machine.specs.OneNode.{is_nowhere, is_over}
 use Rattle.aft_step.proofs.Ends.{after_end, after_turn, its, runs, somewhere}
 use Rattle.aft_step.proofs.client.Client.turn.Goals as goal
 use Rattle.aft_step.specs.Worlds.{shown}
-use Rattle.aft_turns.specs.declared.turn.Where.TheVariants as places
 
 pub returns-in-Done-clause-goes : goal.returns-in-Done-clause-goes
 returns-in-Done-clause-goes g c asked stand seats driven =

@@ -1,4 +1,4 @@
-use Rattle.std.proofs.Common.{◌≡◌, ℕ, Option, sym, subst}
+use Rattle.std.proofs.Common.{ℕ, Option, sym, subst}
 use Rattle.std.specs.Prelude.{IsTrue}
 use Rattle.aft_lines.specs.LegalTrace.{is_clock_time}
 use Rattle.aft_step.proofs.Starts.{not_over}
