@@ -1,12 +1,7 @@
 -- How the parts of words begin.
-use Rattle.std.proofs.Common.{Bool, List, None, Option, Some, [], codes, drop, false, if◌then◌else◌, length, map, not, option_and_then, refl, suc, sym, true, zero, ℕ, ◌&&◌, ◌+◌, ◌<◌, ◌≡◌, ◌∙◌, ◌∷◌}
+use Rattle.std.proofs.Common.{Bool, List, None, Some, [], codes, drop, false, if◌then◌else◌, not, refl, true, ℕ, ◌&&◌, ◌≡◌, ◌∷◌}
 use Rattle.std.specs.Str.{bytes_eq}
-use Rattle.aft_words.specs.Parts.{Part, alone, flag, is_hyphened, name, option, parts_of, takes_next, value_behind}
-
--- behind `--` each word is a name
-pub parts_of-dashes : (word : List ℕ) (words : List (List ℕ)) → bytes_eq word (codes "--") ≡ true → parts_of (word ∷ words) ≡ map name words
-parts_of-dashes word [] dashes = rw dashes refl
-parts_of-dashes word (next ∷ words) dashes = rw dashes refl
+use Rattle.aft_words.specs.Parts.{alone, is_hyphened, option, parts_of, takes_next, value_behind}
 
 chosen_value : (word next value : List ℕ) (words : List (List ℕ)) (takes : Bool) → (if takes then Some next else None) ≡ Some value
     → (if takes then option word next ∷ parts_of words else alone word ∷ parts_of (next ∷ words)) ≡ option word value ∷ parts_of words

@@ -1,5 +1,5 @@
 -- When a word is a number.
-use Rattle.std.proofs.Common.{Bool, Err, List, None, Ok, Option, Result, Some, ap, arith, false, get_or, if◌then◌else◌, length, nat_lt, refl, sym, true, ℕ, ◌&&◌, ◌<◌, ◌^◌, ◌≡◌, ◌≢◌, ◌∙◌, ◌∷◌, []}
+use Rattle.std.proofs.Common.{Bool, Err, List, None, Ok, Option, Result, Some, ap, false, get_or, if◌then◌else◌, refl, true, ℕ, ◌≡◌, ◌≢◌, ◌∙◌}
 use Rattle.std.specs.Result.{result_ok}
 use Rattle.std.specs.Str.{all_ascii_digits}
 use Rattle.std.specs.Str.Parse.{ParsesUnsigned, digits_value}
@@ -29,8 +29,3 @@ number_of-parsed {E = E} word (Err e) parses unsigned =
     let a = and_parts _ _ holds in
     let b = and_parts _ _ a.0 in
     p (b.0, ltb-true _ _ b.1, ltb-true _ _ a.1))
-
--- a word with a plus in front is no number
-pub number_of-plus : (word : List ℕ) → get_or word 0 0 ≡ 43 → number_of word ≡ None
-number_of-plus [] plus = refl
-number_of-plus (c ∷ cs) plus = rw plus refl

@@ -15,5 +15,13 @@ pub asked_of-none : (word : List ℕ) (given : Gathered)
     → (word ≡ codes "session" → ⊥) → (word ≡ codes "backup" → ⊥) → (word ≡ codes "restore" → ⊥) → (word ≡ codes "check" → ⊥)
     → None ≡ asked_of word given
 asked_of-none word given run step make upgrade session backup restore check =
-    rw (told_apart word _ run, told_apart word _ step, told_apart word _ make, told_apart word _ upgrade,
-    told_apart word _ session, told_apart word _ backup, told_apart word _ restore, told_apart word _ check) refl
+    rw (
+      told_apart word _ run,
+      told_apart word _ step,
+      told_apart word _ make,
+      told_apart word _ upgrade,
+      told_apart word _ session,
+      told_apart word _ backup,
+      told_apart word _ restore,
+      told_apart word _ check,
+    ) refl

@@ -1,5 +1,5 @@
 -- What the words of a command line ask for.
-use Rattle.std.specs.Prelude.{Bool, List, None, Option, Some, [], codes, false, if◌then◌else◌, is_some, length, nat_le, nat_lt, not, option_and_then, option_map, true, ℕ, ◌&&◌, ◌++◌, ◌^◌, ◌||◌, ◌∷◌}
+use Rattle.std.specs.Prelude.{Bool, List, None, Option, Some, [], codes, false, if◌then◌else◌, is_some, length, nat_le, nat_lt, not, option_and_then, option_map, true, ℕ, ◌&&◌, ◌++◌, ◌^◌, ◌∷◌}
 use Rattle.std.specs.Str.{all_ascii_digits, bytes_eq}
 use Rattle.std.specs.Str.Parse.{digits_value}
 use Rattle.aft_words.specs.Asked.{Asked, Backup, Check, Make, Restore, Run, Session, Setup, Step, Upgrade}
@@ -13,6 +13,7 @@ pub record Gathered : Type 0 where
   pub time : Option ℕ
   pub trace : Bool
 
+-- no name and no option
 abbrev pub nothing : Gathered
 nothing = record { names = []; conf = None; store = None; time = None; trace = false }
 
@@ -71,6 +72,7 @@ of_store given = not (is_some given.conf) && not given.trace
 abbrev pub is_plain : Gathered → Bool
 is_plain given = of_store given && not (is_some given.store) && not (is_some given.time)
 
+-- what a run stands on
 abbrev pub setup_of : Gathered → Setup
 setup_of given = record { conf = given.conf; store = given.store; time = given.time }
 

@@ -14,6 +14,7 @@ use Rattle.aft_words.specs.declared.invocation.Setup.{Setup}
 abbrev pub text_of : Option (Bor (List ℕ)) → Option (List ℕ)
 text_of text = option_map (λ t. t.now) text
 
+-- what a run stands on
 abbrev pub setup_said : Setup → asked.Setup
 setup_said setup = record { conf = text_of setup.conf; store = text_of setup.store; time = setup.time }
 
@@ -42,5 +43,5 @@ given_said given = record {
   conf = text_of given.conf;
   store = text_of given.store;
   time = given.time;
-  trace = given.trace
+  trace = given.trace;
 }

@@ -1,7 +1,8 @@
 //! What a command line asks for.
 
 /// What is written, with a line's end behind it, where the words have no reading.
-pub const USAGE: &str = "usage: aft run FILE or aft step FILE ORDER or aft make N FIRST or aft upgrade or aft session FILE ORDER ASK or aft backup FILE ORDER or aft restore COPY or aft check FILE";
+pub const USAGE: &str =
+    "usage: aft run FILE or aft step FILE ORDER or aft make N FIRST or aft upgrade or aft session FILE ORDER ASK or aft backup FILE ORDER or aft restore COPY or aft check FILE";
 
 /// What a run stands on, where it is given. Names of files aren't empty.
 #[derive(Clone, Copy, Debug, PartialEq, Eq)]
@@ -60,5 +61,7 @@ pub enum Invocation<'a> {
         store: Option<&'a str>,
     },
     /// Checks a trace.
-    Check { trace: &'a str },
+    Check {
+        trace: &'a str,
+    },
 }
