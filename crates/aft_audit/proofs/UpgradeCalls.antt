@@ -1,12 +1,14 @@
 -- What comes of one commit of an upgrade, by what the door answered.
-use Rattle.std.proofs.Common.{◌≡◌, ℕ, suc, ◌+◌, ◌<◌, Bool, true, false, not, ◌&&◌, ◌||◌, List, [], ◌∷◌, ◌++◌, length, get_or, drop, drop-cons, arith, refl, sym, ap, subst, ◌∙◌}
+use Rattle.std.proofs.Common.{◌≡◌, ℕ, zero, suc, ◌+◌, ◌<◌, Bool, true, false, not, ◌&&◌, ◌||◌, List, [], ◌∷◌, ◌++◌, length, get_or, drop, drop-cons, arith, refl, sym, ap, subst, ◌∙◌}
 use Rattle.std.specs.Prelude.{Err, IsFalse, IsTrue, None, Ok, Option, Some}
 use Rattle.std.specs.List.{list_any}
+use Rattle.std.proofs.lemmas.Bool.{or_right}
 use Rattle.aft_keeper.specs.declared.keeper.KeeperAnswer.{KeeperAnswer}
 use Rattle.aft_keeper.specs.declared.keeper.KeeperAnswer.TheVariants.{Absent, Done, Failed, Found, Page}
 use Rattle.aft_keeper.specs.declared.keeper.KeeperCall.{KeeperCall}
 use Rattle.aft_keeper.specs.declared.keeper.KeeperCall.TheVariants.{Get, Put}
 use Rattle.aft_records.specs.declared.stored.Commit.{Commit}
+use Rattle.aft_records.specs.Commits.{same_commit}
 use Rattle.aft_records.specs.Rows.{record_row}
 use Rattle.aft_records.specs.Stored.{IsCommit}
 use Rattle.aft_model.specs.declared.caller.Caller.{Caller}
@@ -88,6 +90,12 @@ module _ (c : Commit) (others : List Commit) where
   put_refused door_faults.Failed found old now new is limits format asks = put_failed c others old found now.history is limits format new.history asks.history
   put_refused fault found old now new is limits format asks = got_only c others old found new.history (asks.history ∙ is)
 
+-- what passes a test behind some first elements passes it in all
+any_drop : {A : Type 0} (test : A → Bool) (k : ℕ) (xs : List A) → IsTrue (list_any test (drop k xs)) → IsTrue (list_any test xs)
+any_drop test zero xs is = is
+any_drop test (suc k) [] is = is
+any_drop test (suc k) (x ∷ xs) is = or_right _ _ (any_drop test k xs is)
+
 -- the next of the commits of an upgrade
 module _ (commits : List Commit) (i : ℕ) (d item : Commit) (inside : i < length commits) (is : item ≡ get_or commits i d) where
   begins_with : item ∷ drop (i + 1) commits ≡ drop i commits
@@ -99,4 +107,4 @@ module _ (commits : List Commit) (i : ℕ) (d item : Commit) (inside : i < lengt
 
   pub next_stopped : (n : ℕ) (fault : AuditFault) (old now new : List DoorEntry) → HasPassed commits (drop i commits) n old now → ((others : List Commit) → HasStopped fault (item ∷ others) now new) → HasStopped fault commits old new
   next_stopped n fault old now new first more =
-      stopped_on commits (drop i commits) n fault old now new first (subst (λ (cs : List Commit). HasStopped fault cs now new) begins_with (more (drop (i + 1) commits)))
+      stopped_on commits (drop i commits) n fault old now new (λ c is'. any_drop (same_commit c) i commits is') first (subst (λ (cs : List Commit). HasStopped fault cs now new) begins_with (more (drop (i + 1) commits)))

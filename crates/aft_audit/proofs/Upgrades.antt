@@ -6,13 +6,14 @@ use Rattle.std.specs.Cmp.Lexicographic.{pointwise}
 use Rattle.std.specs.Str.{bytes_eq}
 use Rattle.std.proofs.lemmas.Bool.{and_from, or_left, or_parts}
 use Rattle.std.proofs.lemmas.List.Elements.{filter-append}
+use Rattle.std.proofs.lemmas.List.Folds.{list_all-append}
 use Rattle.aft_keeper.specs.declared.keeper.KeeperAnswer.{KeeperAnswer}
 use Rattle.aft_keeper.specs.declared.keeper.KeeperAnswer.TheVariants.{Done, Failed}
 use Rattle.aft_keeper.specs.declared.keeper.KeeperCall.TheVariants.{Get, Put}
 use Rattle.aft_keeper.specs.declared.keeper.Pair.{Pair}
 use Rattle.aft_records.specs.declared.stored.Commit.{Commit}
 use Rattle.aft_records.specs.declared.stored.Record.{Record}
-use Rattle.aft_records.specs.Commits.{is_among}
+use Rattle.aft_records.specs.Commits.{is_among, same_commit}
 use Rattle.aft_records.specs.Reading.{record_of}
 use Rattle.aft_records.specs.Rows.{record_row}
 use Rattle.aft_records.specs.Stored.{IsCommit}
@@ -31,7 +32,7 @@ use Rattle.aft_lines.specs.Turns.{AtDoor, Turn, door_turns}
 use Rattle.aft_lines.specs.UpgradeCourse.{behind_upgrade_get, puts_upgraded, upgraded, upgrades}
 use Rattle.aft_audit.specs.Audit.{opener}
 use Rattle.aft_lines.specs.UpgradeTrace.{is_put}
-use Rattle.aft_audit.specs.Upgrading.{HasPassed, HasStopped, StopsFor, format_found, puts_in}
+use Rattle.aft_audit.specs.Upgrading.{HasPassed, HasStopped, StopsFor, are_ours, format_found, puts_in}
 use Rattle.aft_audit.specs.declared.fault.AuditFault.{AuditFault}
 use Rattle.aft_audit.specs.declared.fault.AuditFault.TheVariants.{Damaged, Memory, Store, TooMany}
 use Rattle.aft_audit.specs.Versions.{found_answer}
@@ -51,6 +52,10 @@ nothing_begins (c ∷ commits) = refl
 same_keys : (keys : List (List ℕ)) → pointwise bytes_eq keys keys ≡ true
 same_keys [] = refl
 same_keys (key ∷ keys) = and_from _ _ (bytes_eq-refl key) (same_keys keys)
+
+-- a commit is the same as itself
+pub commit_itself : (c : Commit) → IsTrue (same_commit c c)
+commit_itself c = and_from _ _ (same_id-refl c.id) (same_keys c.keys)
 
 one_passes : {A : Type 0} (test : A → Bool) (xs : List A) (x : A) → xs ≡ x ∷ [] → IsTrue (test x) → IsTrue (list_any test xs)
 one_passes test xs x is passed = subst (λ (ys : List _). IsTrue (list_any test ys)) (sym is) (or_left _ _ passed)
@@ -99,7 +104,7 @@ module _ (c : Commit) (others : List Commit) where
   put_of answer = called opener (Put Name (record_row (upgraded c))) answer
 
   same_itself : IsTrue (same_record (upgraded c) (upgraded c))
-  same_itself = and_from _ _ (and_from _ _ (and_from _ _ (and_from _ _ (same_id-refl c.id) (same_keys c.keys)) refl) refl) refl
+  same_itself = and_from _ _ (and_from _ _ (and_from _ _ (commit_itself c) refl) refl) refl
 
   written_so : IsCommit c → IsTrue (is_written_as (upgraded c) (record { name = Name; bytes = record_row (upgraded c) }))
   written_so limits = one_passes (same_record (upgraded c)) (written_in (record { name = Name; bytes = record_row (upgraded c) })) (upgraded c)
@@ -136,15 +141,19 @@ works_append : (xs ys : List DoorEntry) → IsFalse (has_failed xs) → has_fail
 works_append [] ys works = refl
 works_append (x ∷ xs) ys works = let parts = or_parts (is_failure x.act) (has_failed xs) works in ap (λ (t : Bool). t || has_failed (xs ++ ys)) parts.0 ∙ works_append xs ys parts.1
 
+ours_append : (xs ys : List DoorEntry) → IsTrue (are_ours xs) → IsTrue (are_ours ys) → IsTrue (are_ours (xs ++ ys))
+ours_append xs ys ours more = list_all-append (λ (e : DoorEntry). same_line opening e.by) xs ys ∙ and_from _ _ ours more
+
 -- nothing was done yet
 pub none_passed : (commits : List Commit) (history : List DoorEntry) → HasPassed commits commits 0 history history
-none_passed commits history = record { made = []; ends = sym (append-nil history); works = refl; passes = λ place whole line. refl; puts_made = refl }
+none_passed commits history = record { made = []; ends = sym (append-nil history); ours = refl; works = refl; passes = λ place whole line. refl; puts_made = refl }
 
 -- what was done, and then more
 pub passed_on : (commits others rest : List Commit) (n m : ℕ) (old now new : List DoorEntry) → HasPassed commits others n old now → HasPassed others rest m now new → HasPassed commits rest (n + m) old new
 passed_on commits others rest n m old now new first more = record {
   made = first.made ++ more.made;
   ends = more.ends ∙ (ap (λ (h : List DoorEntry). h ++ more.made) first.ends ∙ append_assoc old first.made more.made);
+  ours = ours_append first.made more.made first.ours more.ours;
   works = works_append first.made more.made first.works ∙ more.works;
   passes = λ place whole line.
       ap (λ (turns : List Turn). upgrades whole commits (turns ++ line)) (turns_append place first.made more.made)
@@ -153,11 +162,12 @@ passed_on commits others rest n m old now new first more = record {
   puts_made = ap (λ (k : ℕ). k + m) first.puts_made ∙ (ap (λ (k : ℕ). puts_in first.made + k) more.puts_made ∙ sym (puts_append first.made more.made));
 }
 
--- what was done, and then the end
-pub stopped_on : (commits others : List Commit) (n : ℕ) (fault : AuditFault) (old now new : List DoorEntry) → HasPassed commits others n old now → HasStopped fault others now new → HasStopped fault commits old new
-stopped_on commits others n fault old now new first more = record {
+-- what was done, and then the end, where the others are among the commits
+pub stopped_on : (commits others : List Commit) (n : ℕ) (fault : AuditFault) (old now new : List DoorEntry) → ((c : Commit) → IsTrue (is_among c others) → IsTrue (is_among c commits)) → HasPassed commits others n old now → HasStopped fault others now new → HasStopped fault commits old new
+stopped_on commits others n fault old now new within first more = record {
   made = first.made ++ more.made;
   ends = more.ends ∙ (ap (λ (h : List DoorEntry). h ++ more.made) first.ends ∙ append_assoc old first.made more.made);
+  ours = ours_append first.made more.made first.ours more.ours;
   begins = λ place.
       ap (λ (turns : List Turn). upgrades false commits turns) (turns_append place first.made more.made)
       ∙ (first.passes place false (door_turns opening (place + length first.made) more.made) ∙ more.begins (place + length first.made));
@@ -175,8 +185,8 @@ stopped_on commits others n fault old now new first more = record {
         from o [] ys e is = some_last o ys e is
         from o (x ∷ xs) ys e is = from (Some x) xs ys e is
 
-    behind : (fault : AuditFault) → StopsFor fault more.made → StopsFor fault (first.made ++ more.made)
+    behind : (fault : AuditFault) → StopsFor fault others more.made → StopsFor fault commits (first.made ++ more.made)
     behind Store why = works_append first.made more.made first.works ∙ why
     behind TooMany why = why
-    behind (Damaged name) why = record { commit = why.commit; answer = why.answer; named = why.named; last = last_behind first.made more.made _ why.last; none = why.none; works = works_append first.made more.made first.works ∙ why.works }
+    behind (Damaged name) why = record { commit = why.commit; among = within why.commit why.among; answer = why.answer; named = why.named; last = last_behind first.made more.made _ why.last; none = why.none; works = works_append first.made more.made first.works ∙ why.works }
     behind Memory why = works_append first.made more.made first.works ∙ why

@@ -5,7 +5,7 @@ use Rattle.aft_keeper.specs.declared.keeper.KeeperAnswer.TheVariants.{Done}
 use Rattle.aft_records.specs.Rows.{record_row}
 use Rattle.aft_door.specs.Calls.{upgraded}
 use Rattle.aft_audit.proofs.UpgradeCalls.{get_refused, got, put_refused, still_untouched}
-use Rattle.aft_audit.proofs.UpgradeEnds.{got_only, put_done}
+use Rattle.aft_audit.proofs.UpgradeEnds.{found_none, got_only, put_done}
 use Rattle.aft_audit.proofs.upgrading.upgrade_record.Goals as goal
 
 pub returns-in_err-found-clause-err : goal.returns-in_err-found-clause-err
@@ -42,3 +42,9 @@ returns-in-Some-true-clause-ok g c =
     λ others. put_done c.args.commit.now others c.args.door.now.history c.in_ok-found.found c.get.new.self.history
     (got c.in_ok-found.found _ c.args.door.now c.get.new.self (rw c.opener.ensures at c.in_ok-found.ensures.shows)) (c.in_ok-format_of.ensures.limits (ap (λ (o : Option Bool). Ok o) first)) (sym c.in_ok-format_of.ensures.format ∙ first)
     c.put_upgrade.new.self.history (let asks = rw c.opener-in-Some-true.ensures at c.in_ok-put_upgrade-in-Some-true.ensures.asks in asks.history)
+
+pub returns-clause-err : goal.returns-clause-err
+returns-clause-err g c =
+    rw c.in_ok-text.ensures
+    (λ others. found_none c.args.commit.now others c.args.door.now.history c.in_ok-found.found c.get.new.self.history
+    (got c.in_ok-found.found _ c.args.door.now c.get.new.self (rw c.opener.ensures at c.in_ok-found.ensures.shows)) (sym c.in_ok-format_of.ensures.format ∙ c.in-None.is))

@@ -1,0 +1,4 @@
+pub mod Orders
+pub mod Shown
+pub mod Ends
+pub mod Traces
